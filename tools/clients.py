@@ -266,13 +266,13 @@ def free_port():
 
 
 class Server:
-    """A server that runs at a repository in a folder, which is made where it is missing."""
+    """A server that runs at a repository in a folder, which is made of a format where it is missing."""
 
-    def __init__(self, program, room, address_space=None):
+    def __init__(self, program, room, address_space=None, format=3):
         self.program, self.folder, self.port = program, room / "repository", free_port()
         self.users, self.journal = room / "users", room / "journal"
         if not self.folder.exists():
-            subprocess.run([program, "create", self.folder], check=True)
+            subprocess.run([program, "create", "--format", str(format), self.folder], check=True)
         self.users.write_bytes(b"[users]\n" + b"".join(b"%s = %s\n" % (name.encode(), word) for name, word in USERS.items()))
         self.users.chmod(0o600)
         words = [program, "serve", self.folder, "--listen", f"127.0.0.1:{self.port}", "--name", NAME]

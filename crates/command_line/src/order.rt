@@ -1,4 +1,5 @@
 //! What the program is asked for.
+ghost use Rattle.std.specs.Prelude.{◌≡◌, ◌⊎◌};
 
 /// Where a repository is.
 #[derive(Debug, Drop)]
@@ -23,13 +24,40 @@ pub struct Service {
     pub quiet: bool,
 }
 
+/// Which format a new repository is of.
+#[derive(Clone, Copy, Debug, PartialEq, Eq)]
+pub enum NewFormat {
+    Two,
+    Three,
+}
+
+impl NewFormat {
+    /// Gives the number of the format.
+    pub fn number(self) -> u32
+        ensures { (result ≡ 2) ⊎ (result ≡ 3) }
+    {
+        match self {
+            NewFormat::Two => 2,
+            NewFormat::Three => 3,
+        }
+    }
+}
+
 /// What the program is asked for. Whether a repository may have the name, whether the address has its form and what
 /// stands in the file of users is not judged here.
 #[derive(Debug, Drop)]
 pub enum Order {
-    /// Make an empty repository in this folder.
+    /// Make an empty repository of a format in this folder.
     Create {
         folder: String,
+        format: NewFormat,
+    },
+    /// Copy the repository of format 2 in a folder into a new one, of format 3, and tell somebody at a terminal how far that
+    /// is, or nothing but a fault.
+    Migrate {
+        folder: String,
+        new: String,
+        quiet: bool,
     },
     /// Serve one session over the standard streams, on the repository of this name, whose clients may change the
     /// properties of revisions or not.

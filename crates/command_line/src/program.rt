@@ -7,6 +7,9 @@ use std::alloc::{AllocError, Global};
 /// The command that makes a repository.
 pub(crate) const CREATE: &str = "create";
 
+/// The command that copies a repository into another format.
+pub(crate) const MIGRATE: &str = "migrate";
+
 /// The command that serves one session over the standard streams.
 pub(crate) const STDIO: &str = "stdio";
 
@@ -15,6 +18,12 @@ pub(crate) const SERVE: &str = "serve";
 
 /// The argument that names the folder.
 pub(crate) const FOLDER: &str = "DIR";
+
+/// The argument that names the folder of the copy.
+pub(crate) const NEW: &str = "NEW";
+
+/// The argument that says which format a new repository is of.
+pub(crate) const FORMAT: &str = "format";
 
 /// The argument that names the repository.
 pub(crate) const NAME: &str = "name";
@@ -109,14 +118,46 @@ fn per_address_argument<'a>(alloc: Global) -> Arg<'a> {
     )
 }
 
-/// Makes the command `create DIR`.
+/// Makes the argument that says which format a new repository is of.
+fn format_argument<'a>(alloc: Global) -> Arg<'a> {
+    optional_argument(
+        alloc,
+        FORMAT,
+        "FORMAT",
+        "Its format, 2 or 3; without it 3, which Subversion 1.5 and later read",
+    )
+}
+
+/// Makes the command `create DIR [--format FORMAT]`.
 fn create_command<'a>(alloc: Global) -> Result<Command<'a>, AllocError> {
     Command::new(alloc, CREATE)
         .about("Makes an empty repository")
         .arg(folder_argument(
             alloc,
             "The repository's folder, which is made if it is missing",
-        ))
+        ))?
+        .arg(format_argument(alloc))
+}
+
+/// Makes the argument by which nothing is told on standard error but a fault.
+fn quiet_argument<'a>(alloc: Global) -> Arg<'a> {
+    flag_argument(alloc, QUIET, "Writes nothing on standard error but a fault")
+}
+
+/// Makes the command `migrate DIR NEW [--quiet]`.
+fn migrate_command<'a>(alloc: Global) -> Result<Command<'a>, AllocError> {
+    Command::new(alloc, MIGRATE)
+        .about("Copies a repository of format 2 into a new one of format 3")
+        .arg(folder_argument(
+            alloc,
+            "The repository's folder, which stays as it is; nothing may serve it meanwhile",
+        ))?
+        .arg(
+            Arg::new(alloc, NEW)
+                .required(true)
+                .help("The folder of the copy, which is made if it is missing"),
+        )?
+        .arg(quiet_argument(alloc))
 }
 
 /// Makes the command `stdio DIR --name NAME [--revprops]`.
@@ -142,7 +183,7 @@ fn serve_command<'a>(alloc: Global) -> Result<Command<'a>, AllocError> {
         .arg(users_argument(alloc))?
         .arg(per_address_argument(alloc))?
         .arg(revprops_argument(alloc))?
-        .arg(flag_argument(alloc, QUIET, "Writes nothing on standard error but a fault"))
+        .arg(quiet_argument(alloc))
 }
 
 /// Makes the program with its commands.
@@ -152,6 +193,7 @@ pub(crate) fn program<'a>(alloc: Global) -> Result<Command<'a>, AllocError> {
         .version(VERSION)
         .subcommand_required(true)
         .subcommand(create_command(alloc)?)?
+        .subcommand(migrate_command(alloc)?)?
         .subcommand(stdio_command(alloc)?)?
         .subcommand(serve_command(alloc)?)
 }

@@ -1,9 +1,10 @@
 //! How a command line is read.
 
 use crate::fault::CommandLineFault;
-use crate::order::{Location, Order, Service};
+use crate::order::{Location, NewFormat, Order, Service};
 use crate::program::{
-    CREATE, FOLDER, LISTEN, NAME, PER_ADDRESS, QUIET, REVPROPS, SERVE, USERS, program,
+    CREATE, FOLDER, FORMAT, LISTEN, MIGRATE, NAME, NEW, PER_ADDRESS, QUIET, REVPROPS, SERVE, USERS,
+    program,
 };
 use clap::error::ErrorKind;
 use clap::{ArgMatches, Error};
@@ -56,6 +57,18 @@ fn folder_of(alloc: Global, matches: &ArgMatches<'_>) -> Result<String, CommandL
     Ok(folder)
 }
 
+/// Gives the folder of the repository where it can't be in memory; the text says so.
+fn real_folder_of(
+    alloc: Global,
+    matches: &ArgMatches<'_>,
+    refusal: &str,
+) -> Result<String, CommandLineFault> {
+    if matches.get_str(FOLDER) == Some(IN_MEMORY) {
+        return Err(bad(alloc, refusal));
+    }
+    folder_of(alloc, matches)
+}
+
 /// Says where the repository is.
 fn location_of(alloc: Global, matches: &ArgMatches<'_>) -> Result<Location, CommandLineFault> {
     if matches.get_str(FOLDER) == Some(IN_MEMORY) {
@@ -64,13 +77,41 @@ fn location_of(alloc: Global, matches: &ArgMatches<'_>) -> Result<Location, Comm
     Ok(Location::Folder(folder_of(alloc, matches)?))
 }
 
+/// Says which format a new repository is of.
+fn format_of(alloc: Global, matches: &ArgMatches<'_>) -> Result<NewFormat, CommandLineFault> {
+    match matches.get_str(FORMAT) {
+        None | Some("3") => Ok(NewFormat::Three),
+        Some("2") => Ok(NewFormat::Two),
+        Some(_) => Err(bad(alloc, "error: FORMAT of --format is 2 or 3\n")),
+    }
+}
+
 /// Makes the order that the arguments of `create` give.
 fn create_order(alloc: Global, matches: &ArgMatches<'_>) -> Result<Order, CommandLineFault> {
-    if matches.get_str(FOLDER) == Some(IN_MEMORY) {
-        return Err(bad(alloc, "error: DIR of `create` is a folder\n"));
-    }
+    let format = format_of(alloc, matches)?;
     Ok(Order::Create {
-        folder: folder_of(alloc, matches)?,
+        folder: real_folder_of(alloc, matches, "error: DIR of `create` is a folder\n")?,
+        format,
+    })
+}
+
+/// Gives the folder of a copy.
+fn new_folder_of(alloc: Global, matches: &ArgMatches<'_>) -> Result<String, CommandLineFault> {
+    let new = value_of(alloc, matches, NEW)?;
+    if new.is_empty() || new.as_str() == IN_MEMORY {
+        return Err(bad(alloc, "error: NEW of `migrate` is a folder\n"));
+    }
+    Ok(new)
+}
+
+/// Makes the order that the arguments of `migrate` give.
+fn migrate_order(alloc: Global, matches: &ArgMatches<'_>) -> Result<Order, CommandLineFault> {
+    let folder = real_folder_of(alloc, matches, "error: DIR of `migrate` is a folder\n")?;
+    let new = new_folder_of(alloc, matches)?;
+    Ok(Order::Migrate {
+        folder,
+        new,
+        quiet: matches.get_flag(QUIET),
     })
 }
 
@@ -119,6 +160,7 @@ pub fn read_command_line(alloc: Global, words: &[String]) -> Result<Order, Comma
     match program(alloc)?.try_get_matches_from(words) {
         Ok(matches) => match matches.subcommand() {
             Some((CREATE, arguments)) => create_order(alloc, arguments),
+            Some((MIGRATE, arguments)) => migrate_order(alloc, arguments),
             Some((SERVE, arguments)) => serve_order(alloc, arguments),
             Some((_, arguments)) => stdio_order(alloc, arguments),
             None => Err(bad(alloc, "error: a command is missing\n")),

@@ -33,31 +33,3 @@ pub fn date_bytes(alloc: Global, moment: u64) -> Result<ByteString, AllocError>
 {
     Ok(ByteString::new(date_text(alloc, moment)?.into_bytes()))
 }
-
-#[cfg(test)]
-mod tests {
-    use crate::date_text;
-    use std::test::Fail;
-
-    #[test]
-    fn dates_of_moments(rt: HostRuntime) -> Result<(), Fail> {
-        let alloc = rt.alloc();
-        assert_eq!(rt;
-            date_text(alloc, 0)?.as_str(),
-            "1970-01-01T00:00:00.000000Z"
-        );
-        assert_eq!(rt;
-            date_text(alloc, 999_999)?.as_str(),
-            "1970-01-01T00:00:00.999999Z"
-        );
-        assert_eq!(rt;
-            date_text(alloc, 951_827_696_123_456)?.as_str(),
-            "2000-02-29T12:34:56.123456Z"
-        );
-        assert_eq!(rt;
-            date_text(alloc, 200_000_000_000_000_000)?.as_str(),
-            "8307-10-01T19:33:20.000000Z"
-        );
-        Ok(())
-    }
-}

@@ -57,7 +57,7 @@ module _ (c : RepoState) (report : WholeReport) where
     -- where no more are said, those are a part
     pub said_part : (start now : Visitor) (s t : S) (around : ℕ) → HasSaid start now s t around → SaysPart start s t
     said_part start now s t around so =
-        let rest : (visits : List Visit) × MayVisit (drive_trees c report) now visits = some_visits c report now.open.items in (
+        let rest : (visits : List Visit) × MayVisit (drive_trees c report) now visits = some_visits c report now in (
           so.said ++ rest.0,
           so.follows rest.0 rest.1,
           subst (λ (cs : List EditorCommand). WritesPart (writes s t) (command_bytes cs)) (sym (so.splits rest.0))
@@ -95,7 +95,7 @@ module _ (c : RepoState) (report : WholeReport) where
       pub said_failed : (start now later : Visitor) (s t u : S) (around : ℕ) (visit : Visit) → HasSaid start now s t around → Gives now later visit
           → WritesPart (writes t u) (command_bytes (visit_commands c report around visit)) → SaysPart start s u
       said_failed start now later s t u around visit so gives part =
-          let rest : (visits : List Visit) × MayVisit (drive_trees c report) later visits = some_visits c report later.open.items in (
+          let rest : (visits : List Visit) × MayVisit (drive_trees c report) later visits = some_visits c report later in (
             so.said ++ visit ∷ rest.0,
             so.follows (visit ∷ rest.0) (gives rest.0 rest.1),
             subst (λ (cs : List EditorCommand). WritesPart (writes s u) (command_bytes cs)) (sym (splits_next so.said around visit so.splits rest.0))

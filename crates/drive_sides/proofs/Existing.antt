@@ -14,7 +14,7 @@ use Rattle.drive_rules.specs.declared.depth.Depth.TheVariants.{Empty, Files, Imm
 use Rattle.drive_news.proofs.Changes.{none_changed}
 use Rattle.drive_news.specs.{News.property_changes, Places.{AreLike, AreUnlike}}
 use Rattle.reporter.proofs.{Children.{AreDistinct, children_all, children_are}, Existing.{IsDecided, some_left}}
-use Rattle.reporter.specs.{Left.IsLeft, Walks.IsListed, declared.unvisited.Unvisited.Unvisited, declared.visit.Visit.Visit}
+use Rattle.reporter.specs.{Left.IsLeft, Visiting.MayVisit, Walks.IsListed, declared.visit.Visit.Visit, declared.visitor.Visitor.Visitor}
 use Rattle.drive_reports.proofs.Holding.{comparable}
 use Rattle.drive_reports.specs.Reported.{ReportedTree, has_place, in_graft, in_subtree, left_by, reported_as, with_graft}
 use Rattle.drive_reports.specs.{Targets.{WholeReport, goal_path, new_tree, old_tree, stale_in}, declared.graft.Graft.Graft, declared.graft.Subtree.Subtree}
@@ -218,5 +218,8 @@ listed c report p = (
 )
 
 -- whatever is left of a drive, it can be visited
-pub some_visits : (c : RepoState) (report : WholeReport) (inner : List Unvisited) → (visits : List Visit) × IsLeft (drive_trees c report) inner visits
-some_visits c report inner = some_left (drive_trees c report) (path_bound c report.ask) (new_is_shorter c report) (news_leads c report) (decided c report) (listed c report) inner
+pub some_visits : (c : RepoState) (report : WholeReport) (visitor : Visitor) → (visits : List Visit) × MayVisit (drive_trees c report) visitor visits
+some_visits c report visitor =
+    let some : (visits : List Visit) × IsLeft (drive_trees c report) visitor.open.items visits =
+    some_left (drive_trees c report) (path_bound c report.ask) (new_is_shorter c report) (news_leads c report) (decided c report) (listed c report) visitor.open.items in
+    (some.0, λ so. some.1)

@@ -1,17 +1,17 @@
 -- Where both sides are the same.
-use Rattle.drive_sides.specs.{Depths.IsWhole, Plans.drive_trees}
+use Rattle.drive_sides.specs.{Depths.IsWhole, Pairs.{IsOfAll, IsPairAt}, Plans.drive_trees, declared.pairs.EntryPair.EntryPair}
 use Rattle.std.proofs.Common.{◌≡◌, ℕ, Bool, true, false, cond, ◌&&◌, ◌||◌, List, [], ◌∷◌, ◌++◌, length, drop, Option, Some, None, refl, sym, ap, ◌∙◌, subst}
-use Rattle.std.proofs.{Common.option_map, lemmas.List.{append_assoc, append-nil}}
-use Rattle.std.specs.{List.list_any, Prelude.{option_and_then, option_copied}}
+use Rattle.std.proofs.{Common.option_map, lemmas.List.append_assoc}
+use Rattle.std.specs.{List.list_any, Prelude.{IfSome, option_and_then, option_copied}}
 use Rattle.svnpath.specs.{PathLaws.{rest_append, under_append, under_is}, Paths.{Component, is_at_or_under, PathValue}}
 use Rattle.repo_api.specs.{Readings.IsSameAt, States.{RepoState, trees_in}, Trees.Tree, declared.entry.Entry.Entry}
 use Rattle.drive_rules.proofs.{Entries.under_more, Joined.or_false}
 use Rattle.drive_rules.specs.Scopes.{below, depth_below}
-use Rattle.reporter.specs.Walks.{AreAlike}
+use Rattle.reporter.specs.Walks.{AreAlike, IsSamePair}
 use Rattle.drive_reports.proofs.Whole.{in_whole}
-use Rattle.drive_reports.specs.{Places.{in_place, is_grafted_over, reported_subtree}, Reported.{ReportedEntry, reported_entries, left_by, reported_as}}
+use Rattle.drive_reports.specs.{Places.{in_place, is_grafted_over, reported_subtree}, Reported.{ReportedEntry, reported_entries, left_by, reported_as, top_entry}}
 use Rattle.drive_reports.specs.Targets.{WholeReport, client_tree, drive_scope, goal_path, is_stale, is_stale_token, new_tree, old_tree, stale_in, target_tree}
-use Rattle.drive_reports.specs.{declared.ask.DriveAsk.DriveAsk, declared.graft.Graft.Graft, declared.reported.ReportedPlace.ReportedPlace}
+use Rattle.drive_reports.specs.{declared.ask.DriveAsk.DriveAsk, declared.graft.Graft.Graft, declared.graft.Subtree.Subtree, declared.reported.ReportedPlace.ReportedPlace}
 
 none_over : (grafts : List Graft) (p q : PathValue) → list_any (λ (g : Graft). below p g.path) grafts ≡ false → is_grafted_over grafts p q ≡ false
 none_over [] p q none = refl
@@ -39,30 +39,75 @@ and_none : (a b : Bool) → b ≡ false → (a && b) ≡ false
 and_none true b h = h
 and_none false b h = refl
 
--- where a place is the same as what is to be there, and the client has all of it, with no token that is stale
-pub alike : (s : RepoState) (report : WholeReport) (p : PathValue) (place : ReportedPlace)
-    → ((rest : List Component) → is_grafted_over report.grafts p (p ++ rest) ≡ false → client_tree s report (p ++ rest) ≡ in_place (trees_in s.revisions) place rest)
-    → list_any (λ (g : Graft). below p g.path) report.grafts ≡ false → IsWhole place → IsSameAt s place.revision place.path report.ask.revision (goal_path report.ask p)
-    → is_at_or_under p report.ask.target ≡ true → is_stale s report p ≡ false → AreAlike (drive_trees s report) p
-alike s report p place beneath none full equal up fresh q under =
-    subst (λ x. (old_tree s report x ≡ new_tree s report x) × (stale_in s report x ≡ false)) (sym (under_is q p under)) (same (drop (length p) q), no_stale (drop (length p) q))
+top_token : (trees : ℕ → Tree) (place : ReportedPlace) → option_copied place.token ≡ None → option_and_then (λ (h : ReportedEntry). h.token) (in_place trees place []) ≡ None
+top_token trees place none = by (trees place.revision place.path)
   where
-    entry : (rest : List Component) → reported_entries (client_tree s report) (p ++ rest) ≡ target_tree s report.ask (p ++ rest)
-    entry rest =
-        ap (option_map (λ (h : ReportedEntry). h.entry)) (beneath rest (none_over report.grafts p (p ++ rest) none))
-        ∙ in_whole (trees_in s.revisions) place.path (reported_subtree place.revision place.starts_empty place.depth (option_copied place.token)) rest full.0 full.1
-        ∙ equal rest
-        ∙ ap (trees_in s.revisions report.ask.revision) (sym (goal_more report.ask p rest up))
-        ∙ sym (ap (λ b. cond b (trees_in s.revisions report.ask.revision (goal_path report.ask (p ++ rest))) None) (under_more (p ++ rest) p report.ask.target (under_append p rest) up))
+    part : Subtree
+    part = reported_subtree place.revision place.starts_empty place.depth (option_copied place.token)
 
-    same : (rest : List Component) → old_tree s report (p ++ rest) ≡ new_tree s report (p ++ rest)
-    same rest = ap (λ e. cond (drive_scope s report (p ++ rest)) e None) (entry rest)
+    by : (o : Option Entry) → option_and_then (λ (h : ReportedEntry). h.token) (option_map (λ e. reported_as part part.depth part.token (top_entry part.starts_empty e)) o) ≡ None
+    by None = refl
+    by (Some e) = none
 
-    fresh_at : (rest : List Component) → is_stale s report (p ++ rest) ≡ false
-    fresh_at [] = ap (is_stale s report) (append-nil p) ∙ fresh
-    fresh_at (c ∷ rest) =
-        ap (is_stale_token s.locks (goal_path report.ask (p ++ c ∷ rest)) (target_tree s report.ask (p ++ c ∷ rest)))
-        (ap (option_and_then (λ (h : ReportedEntry). h.token)) (beneath (c ∷ rest) (none_over report.grafts p (p ++ c ∷ rest) none)) ∙ no_token (trees_in s.revisions) place c rest)
+module _ (s : RepoState) (report : WholeReport) (p : PathValue) (place : ReportedPlace)
+    (beneath : (rest : List Component) → is_grafted_over report.grafts p (p ++ rest) ≡ false → client_tree s report (p ++ rest) ≡ in_place (trees_in s.revisions) place rest)
+    (none : list_any (λ (g : Graft). below p g.path) report.grafts ≡ false) (full : IsWhole place) (token : option_copied place.token ≡ None) (up : is_at_or_under p report.ask.target ≡ true) where
+  -- what the client has there is what is beneath the place
+  client_at : (rest : List Component) → reported_entries (client_tree s report) (p ++ rest) ≡ trees_in s.revisions place.revision (place.path ++ rest)
+  client_at rest =
+      ap (option_map (λ (h : ReportedEntry). h.entry)) (beneath rest (none_over report.grafts p (p ++ rest) none))
+      ∙ in_whole (trees_in s.revisions) place.path (reported_subtree place.revision place.starts_empty place.depth (option_copied place.token)) rest full.0 full.1
 
-    no_stale : (rest : List Component) → stale_in s report (p ++ rest) ≡ false
-    no_stale rest = and_none (drive_scope s report (p ++ rest)) (is_stale s report (p ++ rest)) (fresh_at rest)
+  -- and what it is to have is what is beneath the goal
+  target_at : (rest : List Component) → target_tree s report.ask (p ++ rest) ≡ trees_in s.revisions report.ask.revision (goal_path report.ask p ++ rest)
+  target_at rest =
+      ap (λ b. cond b (trees_in s.revisions report.ask.revision (goal_path report.ask (p ++ rest))) None) (under_more (p ++ rest) p report.ask.target (under_append p rest) up)
+      ∙ ap (trees_in s.revisions report.ask.revision) (goal_more report.ask p rest up)
+
+  -- no token is stale there
+  token_at : (rest : List Component) → option_and_then (λ (h : ReportedEntry). h.token) (in_place (trees_in s.revisions) place rest) ≡ None
+  token_at [] = top_token (trees_in s.revisions) place token
+  token_at (c ∷ rest) = no_token (trees_in s.revisions) place c rest
+
+  fresh_at : (rest : List Component) → stale_in s report (p ++ rest) ≡ false
+  fresh_at rest =
+      and_none (drive_scope s report (p ++ rest)) (is_stale s report (p ++ rest))
+      (ap (is_stale_token s.locks (goal_path report.ask (p ++ rest)) (target_tree s report.ask (p ++ rest)))
+      (ap (option_and_then (λ (h : ReportedEntry). h.token)) (beneath rest (none_over report.grafts p (p ++ rest) none)) ∙ token_at rest))
+
+  -- where a place is the same as what is to be there, and the client has all of it, with no token
+  pub alike : IsSameAt s place.revision place.path report.ask.revision (goal_path report.ask p) → AreAlike (drive_trees s report) p
+  alike equal q under = subst (λ x. (old_tree s report x ≡ new_tree s report x) × (stale_in s report x ≡ false)) (sym (under_is q p under)) (same (drop (length p) q), fresh_at (drop (length p) q))
+    where
+      same : (rest : List Component) → old_tree s report (p ++ rest) ≡ new_tree s report (p ++ rest)
+      same rest = ap (λ e. cond (drive_scope s report (p ++ rest)) e None) (client_at rest ∙ equal rest ∙ sym (target_at rest))
+
+  -- where all of it is asked for, its entries are a pair
+  pub pair_there : (pair : EntryPair) → pair.revision ≡ place.revision → pair.old ≡ place.path → pair.new ≡ goal_path report.ask p → IsOfAll s report → IsPairAt s report p pair
+  pair_there pair revision old new all = record {
+    old = λ rest.
+        ap (λ b. cond b (reported_entries (client_tree s report) (p ++ rest)) None) (inside rest)
+        ∙ client_at rest
+        ∙ sym (ap (λ n. trees_in s.revisions n (pair.old ++ rest)) revision ∙ ap (λ x. trees_in s.revisions place.revision (x ++ rest)) old);
+    new = λ rest.
+        ap (λ b. cond b (target_tree s report.ask (p ++ rest)) None) (inside rest) ∙ target_at rest ∙ sym (ap (λ x. trees_in s.revisions report.ask.revision (x ++ rest)) new);
+    fresh = fresh_at;
+  }
+    where
+      inside : (rest : List Component) → drive_scope s report (p ++ rest) ≡ true
+      inside rest = all (p ++ rest) (under_more (p ++ rest) p report.ask.target (under_append p rest) up)
+
+-- where the repository has the same for two pairs on either side, they are one
+pub same_pair : (s : RepoState) (report : WholeReport) (p q : PathValue) (one two : EntryPair) → IsPairAt s report p one → IsPairAt s report q two
+    → IsSameAt s one.revision one.old two.revision two.old × IsSameAt s report.ask.revision one.new report.ask.revision two.new → IsSamePair (drive_trees s report) p q
+same_pair s report p q one two first second same rest =
+    (first.old rest ∙ same.0 rest ∙ sym (second.old rest), first.new rest ∙ same.1 rest ∙ sym (second.new rest), second.fresh rest)
+
+-- a pair that was made of a place, if it was
+pub pair_given : (s : RepoState) (report : WholeReport) (p : PathValue) (place : ReportedPlace)
+    → ((rest : List Component) → is_grafted_over report.grafts p (p ++ rest) ≡ false → client_tree s report (p ++ rest) ≡ in_place (trees_in s.revisions) place rest)
+    → list_any (λ (g : Graft). below p g.path) report.grafts ≡ false → is_at_or_under p report.ask.target ≡ true → IsOfAll s report → (goal : PathValue) → goal ≡ goal_path report.ask p
+    → (o : Option EntryPair) → IfSome o (λ pair. IsWhole place × (option_copied place.token ≡ None)) → IfSome o (λ pair. (pair.revision ≡ place.revision) × (pair.old ≡ place.path) × (pair.new ≡ goal))
+    → IfSome o (IsPairAt s report p)
+pair_given s report p place beneath none up all goal there None whole is = is
+pair_given s report p place beneath none up all goal there (Some pair) whole is = pair_there s report p place beneath none whole.0 whole.1 up pair is.0 is.1 (is.2 ∙ there) all

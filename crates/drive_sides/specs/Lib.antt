@@ -4,5 +4,6 @@ pub mod Depths
 pub mod LeadLaws
 pub mod Names
 pub mod OnTrees
+pub mod Pairs
 pub mod Plans
 pub mod Together

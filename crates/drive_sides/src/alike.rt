@@ -1,5 +1,5 @@
 //! What a client has whole.
-ghost use Rattle.std.specs.Prelude.{◌≡◌, true};
+ghost use Rattle.std.specs.Prelude.{◌≡◌, true, None, option_copied};
 ghost use Rattle.repo_api.specs.Readings.{IsSameAt};
 ghost use Rattle.drive_sides.specs.Depths.{IsWhole};
 
@@ -9,7 +9,7 @@ use repo_api::Repository;
 use svnpath::Path;
 
 /// Says whether a client has all that exists at a place and beneath it.
-fn is_whole(place: &ReportedPlace<'_>) -> bool
+pub(crate) fn is_whole(place: &ReportedPlace<'_>) -> bool
     ensures { result ≡ true → IsWhole place.now }
 {
     if place.starts_empty {
@@ -23,7 +23,7 @@ fn is_whole(place: &ReportedPlace<'_>) -> bool
     }
 }
 
-/// Says whether a client has all of what is, as the repository can tell, the same as at a path of a
+/// Says whether a client has, with no token, all of what is, as the repository can tell, the same as at a path of a
 /// revision and beneath it.
 pub(crate) fn has_same<R: Repository>(
     view: &R,
@@ -31,8 +31,10 @@ pub(crate) fn has_same<R: Repository>(
     revision: u64,
     path: &Path,
 ) -> bool
-    ensures { result ≡ true → IsWhole place.now
+    ensures { result ≡ true → IsWhole place.now × (option_copied place.now.token ≡ None)
         × IsSameAt (R.content view.now) place.now.revision place.now.path revision path.now }
 {
-    is_whole(place) && view.is_same(place.revision, &place.path, revision, path)
+    is_whole(place)
+        && place.token.is_none()
+        && view.is_same(place.revision, &place.path, revision, path)
 }

@@ -3,6 +3,7 @@
 
 mod alike;
 mod names;
+mod pairs;
 mod planning;
 mod scope;
 mod sides;

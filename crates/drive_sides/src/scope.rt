@@ -4,7 +4,7 @@ ghost use Rattle.svnpath.specs.Paths.{is_at_or_under};
 ghost use Rattle.repo_api.specs.{Kinds.kind_of, declared.entry.Entry.Entry};
 ghost use Rattle.drive_rules.specs.Scopes.{depth_said, includes, includes_child, keeps_reported, own_or_inherited, top_limit};
 ghost use Rattle.drive_reports.specs.Targets.{client_tree, drive_scope, reported_depth, drive_limit, client_entries, target_entries};
-ghost use Rattle.drive_sides.specs.{OnTrees.on_trees, Plans.whole, Depths.FollowsWholeReport};
+ghost use Rattle.drive_sides.specs.{OnTrees.on_trees, Pairs.IsOfAll, Plans.whole, Depths.FollowsWholeReport};
 
 use crate::two_trees::TwoTrees;
 use drive_reports::{DepthAsked, is_to_the_end};
@@ -154,6 +154,16 @@ impl<'a, R: Repository> TwoTrees<'a, R> {
         asks_as_reported(self.report.ask.depth)
             && is_to_the_end(self.root.depth)
             && !self.report.grafts.has_shallow()
+    }
+
+    /// Says whether the drive is surely of everything at and under its target.
+    pub(crate) fn is_of_all(&self) -> bool
+        ensures { result ≡ true → on_trees self.now IsOfAll }
+    {
+        if asks_for_all(self.report.ask.depth) {
+            return true;
+        }
+        self.follows_whole_report()
     }
 
     /// Says whether a drive is of a path.

@@ -1,6 +1,7 @@
 //! The two trees of a drive, as a walk over them asks.
 use crate::alike::has_same;
 use crate::names::{children_of, put_graft_names, put_names};
+use crate::pairs::{are_same, key_of};
 use crate::two_trees::TwoTrees;
 use crate::views::had_at;
 use byte_string::ByteString;
@@ -116,13 +117,30 @@ impl<'a, R: Repository> Sides for TwoTrees<'a, R> {
         if !path.is_at_or_under(report.ask.target.as_path()) {
             return Ok(false);
         }
-        if report.grafts.has_beneath(path) || self.is_stale(alloc, path)? {
+        if report.grafts.has_beneath(path) {
             return Ok(false);
         }
         let goal = self.goal_path(alloc, path)?;
         match self.client_place(alloc, path)? {
             None => Ok(false),
             Some(place) => Ok(has_same(self.view, &place, report.ask.revision, &goal)),
+        }
+    }
+
+    fn pair_key(&self, alloc: Global, path: &Path) -> Result<Option<u64>, AllocError> {
+        match self.pair_at(alloc, path)? {
+            None => Ok(None),
+            Some(pair) => Ok(Some(key_of(self.view, self.report.ask.revision, &pair))),
+        }
+    }
+
+    fn is_same_pair(&self, alloc: Global, path: &Path, other: &Path) -> Result<bool, AllocError> {
+        let Some(one) = self.pair_at(alloc, path)? else {
+            return Ok(false);
+        };
+        match self.pair_at(alloc, other)? {
+            None => Ok(false),
+            Some(two) => Ok(are_same(self.view, self.report.ask.revision, &one, &two)),
         }
     }
 

@@ -1,3 +1,4 @@
 pub mod Created
 pub mod Sound
 pub mod NotFaulty
+pub mod Copied

@@ -4,7 +4,8 @@ use Rattle.std.proofs.{Common.{ap, subst, ◌∙◌, arith, ⊎_elim, length-app
 use Rattle.std.proofs.{lemmas.List.{length-map, map-append, take-append-le, take_all}, lemmas.Option.{none-some, same_Some}}
 use Rattle.std.specs.{Prelude.{IfErr, IsSome, Result, Ok, Err, slice_get}, Result.result_ok}
 use Rattle.repo_api.specs.{Properties.PropertyList, States.RepoState}
-use Rattle.store_files.specs.{Folders.{Folder, text_of}, declared.name.FileName.TheVariants.Current, declared.fault.StoreFault.StoreFault}
+use Rattle.store_files.specs.{Folders.{Folder, text_of}, declared.name.FileName.TheVariants.{Current, Format}, declared.fault.StoreFault.StoreFault}
+use Rattle.fsfs_format.specs.{Formats.{format_of, layout_in}, declared.format.Layout.Layout}
 use Rattle.store_files.specs.declared.fault.StoreFault.TheVariants.{Device, File, Halted, NoMemory, Exists}
 use Rattle.repostore.specs.{Current.count_in, Files.{Files, HasFiles, reached, revision_files, RevisionFiles, revisions_below}}
 use Rattle.repostore.specs.Reading.{HasFaultyRevision, IfFaulty, IsFaulty}
@@ -66,18 +67,21 @@ first_history h is n le =
 -- ---- the files of a folder
 
 module _ (folder : Folder) where
+  abbrev layout : Layout
+  layout = layout_in (folder Format)
+
   abbrev bytes : ℕ → List (List ℕ)
-  bytes n = map (λ (r : RevisionFiles). r.0) (revisions_below folder n)
+  bytes n = map (λ (r : RevisionFiles). r.0) (revisions_below layout folder n)
 
-  bytes_more : (n : ℕ) → bytes (suc n) ≡ bytes n ++ (revision_files folder n).0 ∷ []
-  bytes_more n = map-append (λ (r : RevisionFiles). r.0) (revisions_below folder n) (revision_files folder n ∷ [])
+  bytes_more : (n : ℕ) → bytes (suc n) ≡ bytes n ++ (revision_files layout folder n).0 ∷ []
+  bytes_more n = map-append (λ (r : RevisionFiles). r.0) (revisions_below layout folder n) (revision_files layout folder n ∷ [])
 
-  many_below : (n : ℕ) → length (revisions_below folder n) ≡ n
+  many_below : (n : ℕ) → length (revisions_below layout folder n) ≡ n
   many_below zero = refl
-  many_below (suc n) = let m = many_below n in omega (arith, m, length-append (revisions_below folder n) (revision_files folder n ∷ []))
+  many_below (suc n) = let m = many_below n in omega (arith, m, length-append (revisions_below layout folder n) (revision_files layout folder n ∷ []))
 
   many_bytes : (n : ℕ) → length (bytes n) ≡ n
-  many_bytes n = length-map (revisions_below folder n) (λ (r : RevisionFiles). r.0) ∙ many_below n
+  many_bytes n = length-map (revisions_below layout folder n) (λ (r : RevisionFiles). r.0) ∙ many_below n
 
   -- the first of them are those below
   front_bytes : (m k : ℕ) → k ≤ m → take k (bytes m) ≡ bytes k
@@ -85,17 +89,17 @@ module _ (folder : Folder) where
   front_bytes zero (suc k) le = absurd (omega (arith, le))
   front_bytes (suc m) k le = ⊎_elim
       (λ e. take_all k (bytes (suc m)) (omega (arith, e, many_bytes (suc m))) ∙ ap bytes (sym e))
-      (λ ne. ap (take k) (bytes_more m) ∙ take-append-le k (bytes m) ((revision_files folder m).0 ∷ []) (omega (arith, le, ne, many_bytes m))
+      (λ ne. ap (take k) (bytes_more m) ∙ take-append-le k (bytes m) ((revision_files layout folder m).0 ∷ []) (omega (arith, le, ne, many_bytes m))
       ∙ front_bytes m k (omega (arith, le, ne)))
       (cases_eq k (suc m))
 
   -- those of one revision
-  at_below : (m n : ℕ) → n < m → slice_get (revisions_below folder m) n ≡ Some (revision_files folder n)
+  at_below : (m n : ℕ) → n < m → slice_get (revisions_below layout folder m) n ≡ Some (revision_files layout folder n)
   at_below zero n lt = absurd (omega (arith, lt))
   at_below (suc m) n lt = ⊎_elim
-      (λ e. ap (λ k. slice_get (revisions_below folder (suc m)) k) (e ∙ sym (many_below m)) ∙ last (revisions_below folder m) (revision_files folder m)
-      ∙ ap (λ k. Some (revision_files folder k)) (sym e))
-      (λ ne. before (revisions_below folder m) (revision_files folder m) n (omega (arith, lt, ne, many_below m)) ∙ at_below m n (omega (arith, lt, ne)))
+      (λ e. ap (λ k. slice_get (revisions_below layout folder (suc m)) k) (e ∙ sym (many_below m)) ∙ last (revisions_below layout folder m) (revision_files layout folder m)
+      ∙ ap (λ k. Some (revision_files layout folder k)) (sym e))
+      (λ ne. before (revisions_below layout folder m) (revision_files layout folder m) n (omega (arith, lt, ne, many_below m)) ∙ at_below m n (omega (arith, lt, ne)))
       (cases_eq n m)
     where
       last : (xs : List RevisionFiles) (x : RevisionFiles) → slice_get (xs ++ x ∷ []) (length xs) ≡ Some x
@@ -105,7 +109,7 @@ module _ (folder : Folder) where
       before xs x k lt = other_place xs x k (λ e. omega (arith, e, lt))
 
   module _ (f : FiledWorld) (files : Files) (is : IsOf f files) (m : ℕ) (count : count_in (text_of (folder Current)) ≡ Some m)
-      (are : reached folder m ≡ files) where
+      (are : reached layout folder m ≡ files) where
     abbrev held : Held
     held = f.world.held.value
 
@@ -116,7 +120,7 @@ module _ (folder : Folder) where
     long = ap (λ (x : Files). length x.revisions) (sym are) ∙ many_below m
 
     -- each revision comes after those before it
-    has_history : (n : ℕ) → n < m → HasHistory (bytes n ++ (revision_files folder n).0 ∷ [])
+    has_history : (n : ℕ) → n < m → HasHistory (bytes n ++ (revision_files layout folder n).0 ∷ [])
     has_history n lt =
         let h = held_history held f.tables (revision_bytes files) in
         let many : length (revision_bytes files) ≡ m = ap length bytes_are ∙ many_bytes m in (
@@ -127,7 +131,7 @@ module _ (folder : Folder) where
           ),
         )
 
-    has_list : (n : ℕ) → n < m → IsSome (result_ok (properties_of (revision_files folder n).1))
+    has_list : (n : ℕ) → n < m → IsSome (result_ok (properties_of (revision_files layout folder n).1))
     has_list n lt =
         subst (λ o. IsSome o) (is.properties n ∙ said_is files n
         ∙ ap (option_and_then (λ (r : RevisionFiles). result_ok (properties_of r.1)))
@@ -142,9 +146,9 @@ module _ (folder : Folder) where
     no_fault : IsFaulty folder_faults folder → ⊥
     no_fault = ⊎_elim
         (λ head. head held.uuid f.current (record {
-          format = ap (λ (x : Files). x.format) are ∙ is.format;
+          format = ap (λ (x : Files). option_and_then format_of x.format) are ∙ is.format;
           uuid_is = ap (λ (x : Files). result_ok (uuid_of x.uuid)) are ∙ is.uuid;
-          current_is = ap (λ (x : Files). result_ok (current_of x.current)) are ∙ is.current_is;
+          current_is = ap (λ (x : Files). result_ok (current_of f.current.format x.current)) are ∙ is.current_is;
           count = count ∙ ap Some (sym long ∙ sym is.youngest);
         }))
         (⊎_elim
@@ -153,16 +157,16 @@ module _ (folder : Folder) where
         faulty_one revision.0 same revision.2)
         (λ locks. none-some is.locked.said (sym locks ∙ ap (λ (x : Files). locks_in x.locks) are ∙ is.locked.read)))
       where
-        faulty_one : (k : ℕ) → k ≡ m → HasFaultyRevision folder_faults folder k → ⊥
+        faulty_one : (k : ℕ) → k ≡ m → HasFaultyRevision folder_faults layout folder k → ⊥
         faulty_one k e faulty = let lt = faulty.1 in
             faulty.2 (has_history faulty.0 (omega (arith, lt, e)), has_list faulty.0 (omega (arith, lt, e)))
 
 pub not_faulty : (f : FiledWorld) (files : Files) (folder : Folder) → IsOf f files → HasFiles files folder → IsFaulty folder_faults folder → ⊥
 not_faulty f files folder is has = by (count_in (text_of (folder Current))) refl has
   where
-    by : (o : Option ℕ) → count_in (text_of (folder Current)) ≡ o → option_map (reached folder) o ≡ Some files → IsFaulty folder_faults folder → ⊥
+    by : (o : Option ℕ) → count_in (text_of (folder Current)) ≡ o → option_map (reached (layout_in (folder Format)) folder) o ≡ Some files → IsFaulty folder_faults folder → ⊥
     by None count e faulty = none-some files e
-    by (Some m) count e faulty = no_fault folder f files is m count (same_Some (reached folder m) files e) faulty
+    by (Some m) count e faulty = no_fault folder f files is m count (same_Some (reached (layout_in (folder Format)) folder m) files e) faulty
 
 -- so a folder that has them is opened, unless the device or memory fails
 pub fails : (fault : StoreFault) (folder : Folder) → IfFaulty fault (IsFaulty folder_faults folder)

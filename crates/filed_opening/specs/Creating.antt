@@ -1,12 +1,21 @@
 -- A new repository in a folder.
-use Rattle.std.specs.Prelude.{◌≡◌, ◌⊎◌, ℕ, List, None, IsSome, Result, OnOk, IsErrOf}
+use Rattle.std.specs.Prelude.{◌≡◌, ◌⊎◌, ◌==◌, ℕ, List, None, Option, IsSome, Result, OnOk, IsErrOf, option_and_then, if◌then◌else◌}
 use Rattle.dates.specs.Dates.{IsDateText}
 use Rattle.store_files.specs.{Folders.{Folder, IsSame}, Stops.LeavesOnly, declared.name.FileName.TheVariants.{Format, Locks}, declared.store.Store.Ghosts}
 use Rattle.store_files.specs.{declared.fault.StoreFault.StoreFault, declared.fault.StoreFault.TheVariants.Exists}
 use Rattle.repostore.specs.Saving.{Stands}
+use Rattle.fsfs_format.specs.{Formats.format_of, declared.format.Format.Format as FolderFormat, declared.format.Format.TheVariants.{Two, Three}, declared.format.Layout.TheVariants.Sharded}
 use Rattle.repo_api.specs.Opening.{new_repository}
 use Rattle.store_access.specs.Keeping.{HasRepository}
 use Rattle.filed_world.specs.Files.{IsOf, filed_content}
+
+-- the format that a folder says
+abbrev pub format_in : Folder → Option FolderFormat
+format_in f = option_and_then format_of (f Format)
+
+-- format 2, or format 3 in shards of 1,000 revisions
+abbrev pub new_format : ℕ → FolderFormat
+new_format format = if format == 2 then Two else Three (Sharded 1000)
 
 -- the folder has the files of a new repository of this name, dated at the moment
 pub record HasNew (uuid moment : ℕ) (f : Folder) : Type 0 where

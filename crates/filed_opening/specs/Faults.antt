@@ -5,13 +5,14 @@ use Rattle.store_files.specs.{declared.store.Store.Ghosts, declared.fault.StoreF
 use Rattle.repostore.specs.{Current.count_in, Reading.{Faulty, with_head}, declared.opening.Unopened.Unopened}
 use Rattle.store_access.specs.Keeping.{HasRepository}
 use Rattle.fsfs_lines.specs.declared.fault.FileFault.{FileFault}
+use Rattle.fsfs_format.specs.declared.format.Format.{Format}
 use Rattle.fsfs_folder.specs.{Current.current_of, declared.current.Current.Current}
 use Rattle.filed_trees.specs.StandsFor.{locks_in}
 use Rattle.filed_world.specs.{Files.{IsOf, filed_content}, Reading.{ContinueHistory, SayHead}}
 
--- the file `current` says this
-pub record SaysCurrent (bytes : List ℕ) (current : Current) : Type 0 where
-  pub read : result_ok (current_of bytes) ≡ Some current
+-- the file `current` of a folder of the format says this
+pub record SaysCurrent (format : Format) (bytes : List ℕ) (current : Current) : Type 0 where
+  pub read : result_ok (current_of format bytes) ≡ Some current
   pub count : count_in bytes ≡ Some (suc current.youngest)
 
 -- by the result: what a file says, of which this holds, or that it says nothing of the kind

@@ -1,12 +1,14 @@
 //! The reader of a folder.
-ghost use Rattle.std.specs.Prelude.{◌≡◌, Some, IfOk, codes};
+ghost use Rattle.std.specs.Prelude.{◌≡◌, Some, IfOk, option_and_then};
 ghost use Rattle.store_files.specs.Folders.{bytes_of};
 ghost use Rattle.repostore.specs.Files.{Files};
+ghost use Rattle.fsfs_format.specs.Formats.{format_of};
 ghost use Rattle.filed_world.specs.Reading.{AreFirst, HasRead, ReadsLocks};
 ghost use Rattle.filed_opening.specs.Faults.{ReadsOne, SaysCurrent};
 
 use filed_world::{FiledWorld, count_of};
-use fsfs_folder::{Current, check_format, read_current, read_uuid};
+use fsfs_folder::{Current, read_current, read_uuid};
+use fsfs_format::{Format, read_format};
 use fsfs_lines::FileFault;
 use repostore::Reader;
 use std::alloc::{AllocError, Global};
@@ -20,21 +22,23 @@ pub struct FolderReader {
     filed: FiledWorld,
 }
 
-/// Judges the file `format`, which has to be there.
-fn check_format_file(format: &Option<Vec<u8>>) -> Result<(), FileFault>
-    ensures { ReadsOne (λ _. bytes_of format.now ≡ Some (codes "2\n")) result }
+/// Reads the file `format`, which has to be there.
+pub(crate) fn read_format_file(file: &Option<Vec<u8>>) -> Result<Format, FileFault>
+    ensures { ReadsOne (λ format.
+        option_and_then format_of (bytes_of file.now) ≡ Some format) result }
 {
-    match format {
-        Some(bytes) => check_format(bytes.as_slice()),
+    match file {
+        Some(bytes) => read_format(bytes.as_slice()),
         None => Err(FileFault::WrongFormat),
     }
 }
 
-/// Reads the file `current`.
-fn read_current_file(bytes: &[u8]) -> Result<Current, FileFault>
-    ensures { ReadsOne (SaysCurrent bytes.now) result }
+/// Reads the file `current` of a folder of the format.
+fn read_current_file(format: Format, bytes: &[u8]) -> Result<Current, FileFault>
+    ensures says { ReadsOne (SaysCurrent format bytes.now) result }
+    ensures format { IfOk result (λ current. current.format ≡ format) }
 {
-    let current = read_current(bytes)?;
+    let current = read_current(format, bytes)?;
     match count_of(bytes) {
         Some(count) if count - 1 == current.youngest => Ok(current),
         _ => Err(FileFault::BadLine),
@@ -73,9 +77,9 @@ impl Reader for FolderReader {
         uuid: Vec<u8>,
         current: Vec<u8>,
     ) -> Result<(Self, u32), FileFault> {
-        check_format_file(&format)?;
+        let stated = read_format_file(&format)?;
         let name = read_uuid(uuid.as_slice())?;
-        let said = read_current_file(current.as_slice())?;
+        let said = read_current_file(stated, current.as_slice())?;
         let filed = unread(alloc, name, said)?;
         Ok((FolderReader { alloc, filed }, said.youngest + 1))
     }

@@ -1,8 +1,9 @@
 -- The state of a repository that its files stand for.
-use Rattle.std.specs.Prelude.{◌≡◌, ℕ, suc, List, [], ◌∷◌, map, codes, Option, Some, None, option_and_then, length, slice_get, if◌then◌else◌}
+use Rattle.std.specs.Prelude.{◌≡◌, ℕ, suc, List, [], ◌∷◌, map, Option, Some, None, option_and_then, length, slice_get, if◌then◌else◌}
 use Rattle.std.specs.{FinMap.{get, entries}, Result.result_ok}
 use Rattle.svnpath.specs.Paths.{PathValue, same_path}
 use Rattle.repo_api.specs.{Properties.PropertyList, States.{RepoState, Revision}, declared.lock.Lock.Lock}
+use Rattle.fsfs_format.specs.Formats.{format_of}
 use Rattle.fsfs_folder.specs.{Current.current_of, Identity.uuid_of, Locks.locks_of, Properties.properties_of, declared.current.Current.Current}
 use Rattle.repostore.specs.Files.{Files}
 use Rattle.filed_trees.specs.{Pieces.RevisionBytes, Changes.changes_in, Trees.tree_in}
@@ -31,10 +32,10 @@ pub record IsRevision (bytes : RevisionBytes) (n : ℕ) (revision : Revision) : 
   pub changes : changes_in bytes n ≡ Some (entries revision.changes)
 
 pub record StandsFor (files : Files) (state : RepoState) : Type 0 where
-  pub format : files.format ≡ Some (codes "2\n")
   pub uuid : result_ok (uuid_of files.uuid) ≡ Some state.uuid
   pub current : Current
-  pub says : result_ok (current_of files.current) ≡ Some current
+  pub format : option_and_then format_of files.format ≡ Some current.format
+  pub says : result_ok (current_of current.format files.current) ≡ Some current
   pub youngest : suc current.youngest ≡ length files.revisions
   pub count : length state.revisions ≡ length files.revisions
   pub revisions : (n : ℕ) (revision : Revision) → slice_get state.revisions n ≡ Some revision

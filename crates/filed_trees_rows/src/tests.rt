@@ -12,11 +12,11 @@ use svnpath::Path;
 use txntree::{EditFault, OpenNode, TxnTree};
 
 /// The root alone.
-const REVISION_0: &[u8] = b"PLAIN\nEND\nENDREP\nid: 0.0.r0/17\ntype: dir\ncount: 0\n\
+pub(crate) const REVISION_0: &[u8] = b"PLAIN\nEND\nENDREP\nid: 0.0.r0/17\ntype: dir\ncount: 0\n\
       text: 0 0 4 4 2d2977d1c96f487abe4a1e202dd03b4e\ncpath: /\n\n\n17 107\n";
 
 /// A file `/a` with the text `hello` and a line feed.
-const REVISION_1: &[u8] = b"PLAIN\nhello\nENDREP\nid: 1.0.r1/19\ntype: file\ncount: 0\n\
+pub(crate) const REVISION_1: &[u8] = b"PLAIN\nhello\nENDREP\nid: 1.0.r1/19\ntype: file\ncount: 0\n\
       text: 1 0 6 6 b1946ac92492d2347c6235b4d2611184\ncpath: /a\ncopyroot: 0 /\n\n\
       PLAIN\nK 1\na\nV 14\nfile 1.0.r1/19\nEND\nENDREP\nid: 0.0.r1/168\ntype: dir\n\
       pred: 0.0.r0/17\ncount: 1\n\
@@ -33,7 +33,7 @@ const REVISION_2: &[u8] = b"PLAIN\nK 1\np\nV 1\nv\nEND\nENDREP\nid: 1.0.r2/29\nt
       \n1.0.r2/29 modify false true /a\n\n\n244 370\n";
 
 /// Answers want of memory where an edit is not made.
-fn made(edited: Result<(), EditFault>) -> Result<(), Fail> {
+pub(crate) fn made(edited: Result<(), EditFault>) -> Result<(), Fail> {
     match edited {
         Ok(()) => Ok(()),
         Err(_) => Err(AllocError)?,
@@ -41,18 +41,18 @@ fn made(edited: Result<(), EditFault>) -> Result<(), Fail> {
 }
 
 /// Reads a path from its text: an invalid one fails the test.
-fn path(alloc: Global, text: &str) -> Result<Path, Fail> {
+pub(crate) fn path(alloc: Global, text: &str) -> Result<Path, Fail> {
     Ok(Path::parse(alloc, text.as_bytes())?)
 }
 
 /// Makes the text of a file from a copy of the bytes.
-fn text(alloc: Global, bytes: &[u8]) -> Result<FileText, Fail> {
+pub(crate) fn text(alloc: Global, bytes: &[u8]) -> Result<FileText, Fail> {
     let bytes = Arc::new(alloc, Vec::from_slice(alloc, bytes)?)?;
     Ok(FileText::from_shared(bytes))
 }
 
 /// Begins a transaction over the youngest revision.
-fn begun(alloc: Global, nodes: &Nodes) -> Result<TxnTree, Fail> {
+pub(crate) fn begun(alloc: Global, nodes: &Nodes) -> Result<TxnTree, Fail> {
     let Some(root) = nodes.root((nodes.count() as u64).saturating_sub(1)) else {
         return Err(AllocError)?;
     };
@@ -63,7 +63,7 @@ fn begun(alloc: Global, nodes: &Nodes) -> Result<TxnTree, Fail> {
 }
 
 /// Makes the transaction the next revision.
-fn committed(alloc: Global, nodes: &Nodes, tree: &TxnTree) -> Result<Nodes, Fail> {
+pub(crate) fn committed(alloc: Global, nodes: &Nodes, tree: &TxnTree) -> Result<Nodes, Fail> {
     let count = nodes.count();
     if count >= 262_144 {
         return Err(AllocError)?;
@@ -73,7 +73,7 @@ fn committed(alloc: Global, nodes: &Nodes, tree: &TxnTree) -> Result<Nodes, Fail
 }
 
 /// Makes the nodes of revisions 0 and 1, where `/a` has this text.
-fn with_file(alloc: Global, bytes: &[u8]) -> Result<Nodes, Fail> {
+pub(crate) fn with_file(alloc: Global, bytes: &[u8]) -> Result<Nodes, Fail> {
     let nodes = Nodes::opened(alloc)?;
     let mut tree = begun(alloc, &nodes)?;
     let file = path(alloc, "/a")?;
@@ -103,7 +103,7 @@ fn with_value(alloc: Global, nodes: &Nodes, value: &[u8]) -> Result<Nodes, Fail>
 }
 
 /// Makes a change of `/a`.
-fn changed(
+pub(crate) fn changed(
     alloc: Global,
     action: Action,
     text: bool,
@@ -119,7 +119,11 @@ fn changed(
 }
 
 /// Makes the tables with one more.
-fn with_table(alloc: Global, tables: &PVec<Table>, table: Table) -> Result<PVec<Table>, Fail> {
+pub(crate) fn with_table(
+    alloc: Global,
+    tables: &PVec<Table>,
+    table: Table,
+) -> Result<PVec<Table>, Fail> {
     if tables.len() >= 262_144 {
         return Err(AllocError)?;
     }
@@ -127,14 +131,14 @@ fn with_table(alloc: Global, tables: &PVec<Table>, table: Table) -> Result<PVec<
 }
 
 /// Makes the table of revision 0.
-fn first_table(alloc: Global) -> Result<PVec<Table>, Fail> {
+pub(crate) fn first_table(alloc: Global) -> Result<PVec<Table>, Fail> {
     let none = PVec::new(alloc)?;
     let table = tabulated(alloc, &Nodes::opened(alloc)?, &none, &[], REVISION_0)?;
     with_table(alloc, &none, table)
 }
 
 /// Makes the tables of revisions 0 and 1.
-fn two_tables(alloc: Global) -> Result<PVec<Table>, Fail> {
+pub(crate) fn two_tables(alloc: Global) -> Result<PVec<Table>, Fail> {
     let tables = first_table(alloc)?;
     let nodes = with_file(alloc, b"hello\n")?;
     let changes = changed(alloc, Action::Add, true, false)?;

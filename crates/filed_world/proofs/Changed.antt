@@ -152,10 +152,11 @@ module _ (h : Held) (locks : LockMap) (tables : List Table) (current : Current) 
       new.changes
       → IsHistory (held_history new (tables ++ table ∷ []) (revision_bytes files ++ file ∷ []))
       → result_ok (properties_of properties) ≡ Some list
-      → result_ok (current_of said_now) ≡ Some next → next.youngest ≡ length tables
+      → next.format ≡ current.format
+      → result_ok (current_of next.format said_now) ≡ Some next → next.youngest ≡ length tables
       → AreFilesOf new locks (tables ++ table ∷ []) next
       (with_revision files (file, properties) said_now)
-  revision_added new list table next file properties said_now uuid more at tabled history is says young =
+  revision_added new list table next file properties said_now uuid more at tabled history is same says young =
       let added = with_revision files (file, properties) said_now in
       let bytes : revision_bytes added ≡ revision_bytes files ++ file ∷ [] =
       map-append (λ r. r.0) files.revisions ((file, properties) ∷ []) in
@@ -167,7 +168,7 @@ module _ (h : Held) (locks : LockMap) (tables : List Table) (current : Current) 
       is ∙ ap Some (sym (last_is h.properties more.list list last)) in
       let long = length_push files.revisions (file, properties) in
       record {
-        format = are.format;
+        format = are.format ∙ ap Some (sym same);
         uuid = are.uuid ∙ ap Some (sym uuid);
         current_is = says;
         youngest = omega (arith, young, count, long);

@@ -1,11 +1,12 @@
 -- The files of a repository that shares what did not change.
-use Rattle.std.specs.{Prelude.{◌≡◌, ℕ, suc, List, [], ◌∷◌, ◌++◌, Option, Some, codes, length, slice_get, slice_set}, FinMap.get, Result.result_ok}
+use Rattle.std.specs.{Prelude.{◌≡◌, ℕ, suc, List, [], ◌∷◌, ◌++◌, Option, Some, length, option_and_then, slice_get, slice_set}, FinMap.get, Result.result_ok}
 use Rattle.svnpath.specs.Paths.{PathValue}
 use Rattle.repo_api.specs.{Properties.PropertyList, States.{LockMap, RepoState}, declared.lock.Lock.Lock}
 use Rattle.noderevs.specs.Held.{blocks_of}
 use Rattle.held.specs.{Growing.{HasOneMore, HasSame}, declared.held.Held.Held}
 use Rattle.world.specs.{Whole.world_content, declared.world.World.World}
 use Rattle.repostore.specs.Files.{Files}
+use Rattle.fsfs_format.specs.Formats.{format_of}
 use Rattle.fsfs_folder.specs.{Current.current_of, Identity.uuid_of, declared.current.Current.Current}
 use Rattle.filed_trees.specs.{StandsFor.{lock_of, locks_in, revision_bytes, revision_properties}, Tables.AreTabled, declared.table.Table.Table}
 use Rattle.filed_world.specs.{Histories.{IsHistory, held_history}, declared.filed_world.FiledWorld.FiledWorld}
@@ -22,9 +23,9 @@ pub record AreLocks (file : Option (List ℕ)) (locks : LockMap) : Type 0 where
 -- files of what is held and of locks, in which the tables place the nodes
 pub record AreFilesOf (h : Held) (locks : LockMap) (tables : List Table) (current : Current)
     (files : Files) : Type 0 where
-  pub format : files.format ≡ Some (codes "2\n")
+  pub format : option_and_then format_of files.format ≡ Some current.format
   pub uuid : result_ok (uuid_of files.uuid) ≡ Some h.uuid
-  pub current_is : result_ok (current_of files.current) ≡ Some current
+  pub current_is : result_ok (current_of current.format files.current) ≡ Some current
   pub youngest : suc current.youngest ≡ length files.revisions
   pub tabled : AreTabled (revision_bytes files) (blocks_of h.nodes) tables h.changes
   pub history : IsHistory (held_history h tables (revision_bytes files))

@@ -1,5 +1,5 @@
 -- The files of a repository that are read, one revision after another.
-use Rattle.std.specs.{Prelude.{◌≡◌, ℕ, suc, List, [], ◌∷◌, ◌++◌, Option, None, Some, IsSome, Result, Ok, Err, codes, length, slice_get}, Result.result_ok}
+use Rattle.std.specs.{Prelude.{◌≡◌, ℕ, suc, List, [], ◌∷◌, ◌++◌, Option, None, Some, IsSome, Result, Ok, Err, length, option_and_then, slice_get}, Result.result_ok}
 use Rattle.std.specs.FinMap.{entries}
 use Rattle.repo_api.specs.{Opening.new_repository, Properties.PropertyList, States.{ChangeMap, LockMap}}
 use Rattle.noderevs.specs.{Heights.AreHigh, Held.{blocks_of, count, node_at}, Nodes.with_block, OpeningBlocks.AreOpening, declared.node_rev.Block.Block}
@@ -7,6 +7,7 @@ use Rattle.held.specs.declared.held.Held.{Held}
 use Rattle.world.specs.{Adding.HasAdded, Whole.world_content, declared.world.World.World}
 use Rattle.repostore.specs.{Current.count_in, Files.{Files, RevisionFiles}, Reading.{IfFileFaulty, with_one_more, with_read_locks}}
 use Rattle.fsfs_lines.specs.declared.fault.FileFault.{FileFault}
+use Rattle.fsfs_format.specs.Formats.{format_of}
 use Rattle.fsfs_folder.specs.{Current.current_of, Identity.uuid_of, Properties.properties_of, declared.current.Current.Current}
 use Rattle.filed_trees.specs.{Pieces.RevisionBytes, Readable.{IsReadableFile, Judges}, StandsFor.{locks_in, revision_bytes, revision_properties}}
 use Rattle.filed_trees.specs.{Tables.AreTabled, declared.blocks.ReadRevision.ReadRevision, declared.table.Table.Table}
@@ -17,9 +18,9 @@ use Rattle.fsfs_reading.specs.{Pieces.revision_of, declared.piece.FilePiece.File
 
 -- the first files say a format, the name of the repository, and the youngest of its revisions
 pub record SayHead (uuid : ℕ) (current : Current) (files : Files) : Type 0 where
-  pub format : files.format ≡ Some (codes "2\n")
+  pub format : option_and_then format_of files.format ≡ Some current.format
   pub uuid_is : result_ok (uuid_of files.uuid) ≡ Some uuid
-  pub current_is : result_ok (current_of files.current) ≡ Some current
+  pub current_is : result_ok (current_of current.format files.current) ≡ Some current
   pub count : count_in files.current ≡ Some (suc current.youngest)
 
 -- only the first files have been read

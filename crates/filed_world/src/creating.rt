@@ -3,30 +3,35 @@ ghost use Rattle.std.specs.{Prelude.{◌≡◌, ◌≤◌, List, ℕ, IfOk, None
 ghost use Rattle.dates.specs.{Dates.IsDateText, declared.TheConstants.LAST_MOMENT};
 ghost use Rattle.repo_api.specs.Opening.{new_repository};
 ghost use Rattle.repostore.specs.{Creating.opening_files, Current.count_in};
+ghost use Rattle.fsfs_format.specs.Formats.{format_of};
 ghost use Rattle.fsfs_folder.specs.Identity.{uuid_of};
-ghost use Rattle.filed_world.specs.{Files.{IsOf, filed_content}, Creating.{SayNew, new_files}, Reading.{HasReadFirst, IsNextOf}};
+ghost use Rattle.filed_world.specs.{Files.{IsOf, filed_content}, Creating.{SayNew, ids_in, new_files}, Reading.{HasReadFirst, IsNextOf}};
 ghost use Rattle.world.specs.Whole.{world_content};
 
 use crate::filed_world::FiledWorld;
-use crate::written::{current_file, properties_file};
+use crate::written::{current_file, format_file, properties_file};
 use filed_writing::write_revision;
-use fsfs_folder::{Current, FORMAT_BYTES, append_uuid, read_uuid};
+use fsfs_folder::{Current, NextIds, append_uuid, read_uuid};
+use fsfs_format::Format;
 use pvec::PVec;
 use repo_api::Repository;
 use repostore::Opening;
 use std::alloc::{AllocError, Global};
 use world::World;
 
-/// The ids before those of revision 0: the root's copy has the first one.
-const FIRST_IDS: Current = Current {
-    youngest: 0,
-    node: 0,
-    copy: 1,
-};
+/// The format of the folder around a repository's files, for other programs.
+pub const REPOSITORY_FORMAT: &[u8] = b"5\n";
+
+/// The kind of a repository's files, for other programs.
+pub const KIND: &[u8] = b"fsfs\n";
+
+/// The ids before those of revision 0, in both formats: the root's copy has the first one.
+const FIRST_IDS: NextIds = NextIds { node: 0, copy: 1 };
 
 /// The files of a new repository that are not the same in all.
 #[derive(Drop)]
 pub struct NewFiles {
+    pub format: Vec<u8>,
     pub uuid: Vec<u8>,
     pub current: Vec<u8>,
     pub revision: Vec<u8>,
@@ -39,9 +44,9 @@ impl NewFiles {
         ensures { opening_files result None ≡ new_files self.now }
     {
         Opening {
-            format: FORMAT_BYTES,
-            repository_format: b"5\n",
-            kind: b"fsfs\n",
+            format: self.format.as_slice(),
+            repository_format: REPOSITORY_FORMAT,
+            kind: KIND,
             uuid: self.uuid.as_slice(),
             current: self.current.as_slice(),
             revision: self.revision.as_slice(),
@@ -62,9 +67,24 @@ fn uuid_file(alloc: Global, uuid: u128) -> Result<Vec<u8>, AllocError>
     }
 }
 
-/// Makes the files of a new repository, and says which ids come next behind them.
-fn first_files(alloc: Global, world: &World) -> Result<(NewFiles, Current), AllocError>
-    ensures { IfOk result (λ made. SayNew world.now.held.value.uuid made.1 made.0) }
+/// Gives the ids that come next, where they are counted over all revisions.
+fn ids_in(format: Format, ids: Option<NextIds>) -> Option<NextIds>
+    ensures { result ≡ ids_in format ids }
+{
+    match format {
+        Format::Two => ids,
+        Format::Three(_) => None,
+    }
+}
+
+/// Makes the files of a new repository, and says what `current` says.
+fn first_files(
+    alloc: Global,
+    world: &World,
+    format: Format,
+) -> Result<(NewFiles, Current), AllocError>
+    ensures says { IfOk result (λ made. SayNew world.now.held.value.uuid made.1 made.0) }
+    ensures format { IfOk result (λ made. made.1.format ≡ format) }
 {
     let Some(list) = world.revision_properties(0) else {
         return Err(AllocError);
@@ -72,13 +92,14 @@ fn first_files(alloc: Global, world: &World) -> Result<(NewFiles, Current), Allo
     let properties = properties_file(alloc, list)?;
     let tables = PVec::new(alloc)?;
     let changes = world.changes(0);
-    let written = write_revision(alloc, world.nodes(), &tables, changes, FIRST_IDS)?;
+    let written = write_revision(alloc, world.nodes(), &tables, changes, Some(FIRST_IDS))?;
     let current = Current {
+        format,
         youngest: 0,
-        node: written.current.node,
-        copy: written.current.copy,
+        ids: ids_in(format, written.ids),
     };
     let files = NewFiles {
+        format: format_file(alloc, format)?,
         uuid: uuid_file(alloc, world.uuid())?,
         current: current_file(alloc, current)?,
         revision: written.file,
@@ -126,20 +147,22 @@ fn with_files(
 }
 
 /// Makes a new repository, whose revision 0 is dated at the moment, a count of microseconds since the
-/// beginning of 1970; and its files.
+/// beginning of 1970; and its files, which are of the format.
 pub fn new_filed(
     alloc: Global,
     uuid: u128,
     moment: u64,
+    format: Format,
 ) -> Result<(FiledWorld, NewFiles), AllocError>
     requires { moment ≤ LAST_MOMENT }
     ensures content { IfOk result (λ made. (date : List ℕ) × IsDateText moment date
         × (filed_content made.0 ≡ new_repository uuid date)) }
     ensures files { IfOk result (λ made. IsOf made.0 (new_files made.1)) }
     ensures count { IfOk result (λ made. count_in made.1.current.items ≡ Some 1) }
+    ensures format { IfOk result (λ made. format_of made.1.format.items ≡ Some format) }
 {
     let world = World::new(alloc, uuid, moment)?;
-    match first_files(alloc, &world) {
+    match first_files(alloc, &world, format) {
         Ok((files, current)) => match with_files(alloc, world, &files, current) {
             Ok(made) => Ok((made, files)),
             Err(error) => {

@@ -147,13 +147,13 @@ impl FiledWorld {
             world.nodes(),
             &self.tables,
             world.changes(number),
-            self.current,
+            self.current.ids,
         )?;
         let properties = properties_file(self.alloc, list)?;
         let current = Current {
+            format: self.current.format,
             youngest: self.tables.len() as u32,
-            node: written.current.node,
-            copy: written.current.copy,
+            ids: written.ids,
         };
         let new = NewRevision {
             number,

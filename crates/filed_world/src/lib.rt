@@ -11,5 +11,6 @@ mod repository;
 mod written;
 
 pub use counting::count_of;
-pub use creating::{NewFiles, new_filed};
+pub use creating::{KIND, NewFiles, REPOSITORY_FORMAT, new_filed};
 pub use filed_world::FiledWorld;
+pub use written::{current_file, format_file, locks_file};

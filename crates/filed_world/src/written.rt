@@ -1,5 +1,6 @@
 //! Small files, which are read back before they are saved: what they say is what was to be written.
 ghost use Rattle.std.specs.{Prelude.{◌≡◌, ◌+◌, true, map, IfOk, Some}, Map.Iter.deref_pair, Result.result_ok};
+ghost use Rattle.fsfs_format.specs.Formats.{format_of};
 ghost use Rattle.fsfs_folder.specs.{Current.current_of, Locks.locks_of, Properties.properties_of};
 ghost use Rattle.repostore.specs.Current.{count_in};
 
@@ -10,9 +11,22 @@ use fsfs_folder::{
     Current, append_current, read_current, read_locks, read_properties, write_locks,
     write_properties,
 };
+use fsfs_format::{Format, append_format, read_format};
 use repo_api::{Lock, Properties};
 use std::alloc::{AllocError, Global};
 use svnpath::Path;
+
+/// Makes the file `format`. Where it could not be read back it is not made.
+pub fn format_file(alloc: Global, format: Format) -> Result<Vec<u8>, AllocError>
+    ensures { IfOk result (λ file. format_of file.items ≡ Some format) }
+{
+    let mut file = Vec::new(alloc);
+    append_format(&mut file, format)?;
+    match read_format(file.as_slice()) {
+        Ok(read) if read == format => Ok(file),
+        _ => Err(AllocError),
+    }
+}
 
 /// Makes the file of a revision's properties. Where it could not be read back it is not made.
 pub(crate) fn properties_file(alloc: Global, properties: &Properties) -> Result<Vec<u8>, AllocError>
@@ -88,7 +102,7 @@ fn are_same_locks(locks: &[(&Path, &Lock)], others: &[(Path, Lock)]) -> bool
 }
 
 /// Makes the file of locks. Where it could not be read back it is not made.
-pub(crate) fn locks_file(alloc: Global, locks: &[(&Path, &Lock)]) -> Result<Vec<u8>, AllocError>
+pub fn locks_file(alloc: Global, locks: &[(&Path, &Lock)]) -> Result<Vec<u8>, AllocError>
     ensures { IfOk result (λ file. result_ok (locks_of file.items) ≡ Some (map deref_pair locks.now)) }
 {
     let file = write_locks(alloc, locks)?;
@@ -103,13 +117,13 @@ pub(crate) fn locks_file(alloc: Global, locks: &[(&Path, &Lock)]) -> Result<Vec<
 }
 
 /// Makes the file `current`. Where it could not be read back it is not made.
-pub(crate) fn current_file(alloc: Global, current: Current) -> Result<Vec<u8>, AllocError>
-    ensures read { IfOk result (λ file. result_ok (current_of file.items) ≡ Some current) }
+pub fn current_file(alloc: Global, current: Current) -> Result<Vec<u8>, AllocError>
+    ensures read { IfOk result (λ file. result_ok (current_of current.format file.items) ≡ Some current) }
     ensures count { IfOk result (λ file. count_in file.items ≡ Some (current.youngest + 1)) }
 {
     let mut file = Vec::new(alloc);
     append_current(&mut file, current)?;
-    let read = read_current(file.as_slice());
+    let read = read_current(current.format, file.as_slice());
     match (read, count_of(file.as_slice())) {
         (Ok(read), Some(count)) if read == current && count - 1 == current.youngest => Ok(file),
         _ => Err(AllocError),

@@ -4,8 +4,7 @@ use Rattle.std.proofs.lemmas.List.{append_assoc, drop_all, drop_more, length_pus
 use Rattle.std.proofs.lemmas.Option.{get_or_from_slice_get, none-some, slice_get_cases, slice_get_within}
 use Rattle.std.specs.Prelude.{option_and_then, slice_get}
 use Rattle.noderevs.specs.{declared.node_rev.Block.Block, declared.node_rev.NodeRev.NodeRev}
-use Rattle.fsfs_folder.specs.declared.current.Current.{Current}
-use Rattle.filed_writing.specs.{declared.copies.Origin.Origin, declared.revision.Revision.Revision}
+use Rattle.filed_writing.specs.{declared.copies.Origin.Origin, declared.counter.Counter.Counter, declared.revision.Revision.Revision}
 use Rattle.filed_writing.specs.{Drafts.comes_of, Layout.{all_come, comes, next_after, next_after_all, node_here, nodes_in, nodes_of}, Pieces.Comes}
 
 in_block : (o : Option Block) (k : ℕ) → slice_get (nodes_in o) k ≡ option_and_then (λ b. slice_get b.nodes.items k) o
@@ -29,7 +28,7 @@ past_end xs k none = ⊎_elim (λ some. absurd (none-some some.0 (sym none ∙ s
 pub past_all : (r : Revision) (k : ℕ) → node_here r k ≡ None → drop k (nodes_of r) ≡ []
 past_all r k none = drop_all k (nodes_of r) (past_end (nodes_of r) k (at_place r k ∙ none))
 
-module _ (r : Revision) (origins now : List Origin) (o : Origin) (node : NodeRev) (next after : Current)
+module _ (r : Revision) (origins now : List Origin) (o : Origin) (node : NodeRev) (next after : Counter)
     (there : node_here r (length origins) ≡ Some node) (grown : now ≡ origins ++ o ∷ []) (later : after ≡ next_after r node next) where
   long : length now ≡ length origins + 1
   long = ap (λ (os : List Origin). length os) grown ∙ length_push origins o
@@ -49,5 +48,5 @@ module _ (r : Revision) (origins now : List Origin) (o : Origin) (node : NodeRev
   pub one_later : next_after_all r (drop (length now) (nodes_of r)) after ≡ next_after_all r (drop (length origins) (nodes_of r)) next
   one_later =
       ap (λ (k : ℕ). next_after_all r (drop k (nodes_of r)) after) long
-      ∙ ap (λ (c : Current). next_after_all r (drop (length origins + 1) (nodes_of r)) c) later
+      ∙ ap (λ (c : Counter). next_after_all r (drop (length origins + 1) (nodes_of r)) c) later
       ∙ ap (λ (ns : List NodeRev). next_after_all r ns next) (sym (from_here r (length origins) node there))

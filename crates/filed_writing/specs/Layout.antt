@@ -7,14 +7,14 @@ use Rattle.repo_api.specs.{declared.change.Change.Change, declared.change.Source
 use Rattle.repo_api.specs.declared.entry.Content.TheVariants as contents
 use Rattle.revision_data.specs.Found.{found}
 use Rattle.noderevs.specs.{Held.{blocks_of, node_at, root_at}, Views.find_id, declared.node_rev.Block.Block, declared.node_rev.NodeId.NodeId, declared.node_rev.NodeRev.NodeRev}
-use Rattle.fsfs_folder.specs.declared.current.Current.{Current}
+use Rattle.fsfs_folder.specs.declared.current.NextIds.{NextIds}
 use Rattle.fsfs_ids.specs.{declared.id.FileId.FileId, declared.id.IdPart.IdPart}
 use Rattle.fsfs_nodes.specs.{declared.entries.DirectoryEntry.DirectoryEntry, declared.node.FileNode.FileNode}
 use Rattle.fsfs_parts.specs.declared.change.FileChange.{FileChange}
 use Rattle.fsfs_writing.specs.Files.{Piece, file_bytes, pieces_bytes}
 use Rattle.filed_trees.specs.{Tables.placed_in, declared.table.Placed.Placed}
-use Rattle.filed_writing.specs.{Origins.{deleted_at, predecessor_of}, declared.revision.Revision.Revision}
-use Rattle.filed_writing.specs.Pieces.{Before, Brings, Comes, Copy, Writes, after_copy, after_node, all_some, any_new, begins, brings, copied, copy_before, copyroot_line, count_of, counted, dump_in, entry_with, file_change, ids_of, is_file, kind_of, later_copy, node_of, piece_by, properties_of, source_place, text_of_before, with_both}
+use Rattle.filed_writing.specs.{Origins.{deleted_at, predecessor_of}, declared.counter.Counter.Counter, declared.revision.Revision.Revision}
+use Rattle.filed_writing.specs.Pieces.{Before, Brings, Comes, Copy, Writes, after_copy, after_node, all_some, any_new, begins, brings, copied, copy_before, copyroot_line, count_of, counted, counter_in, dump_in, entry_with, file_change, ids_after, ids_of, is_file, kind_of, later_copy, node_of, piece_by, properties_of, source_place, text_of_before, with_both}
 
 -- ---- what is known of a node
 
@@ -57,28 +57,29 @@ made_from r node =
     (predecessor_of r.nodes.now r.changes.now r.number node.path)
 
 -- by the ids that come next
-abbrev pub comes : Revision → NodeRev → Current → Comes
+abbrev pub comes : Revision → NodeRev → Counter → Comes
 comes r node next = record {
-  node = node_of (made_from r node) next.node;
+  node = node_of (made_from r node) next;
   predecessor = made_from r node;
-  copy = option_map (λ source. (counted next.copy, source)) (copied (found r.changes.now node.path));
+  copy = option_map (λ source. (counted next.revision next.copy, source))
+      (copied (found r.changes.now node.path));
 }
 
 -- the ids that come next behind it
-abbrev pub next_after : Revision → NodeRev → Current → Current
+abbrev pub next_after : Revision → NodeRev → Counter → Counter
 next_after r node next = record {
-  youngest = next.youngest;
+  revision = next.revision;
   node = after_node (made_from r node) next.node;
   copy = after_copy (copied (found r.changes.now node.path)) next.copy;
 }
 
 -- in the order of the nodes
-abbrev pub all_come : Revision → List NodeRev → Current → List Comes
+abbrev pub all_come : Revision → List NodeRev → Counter → List Comes
 all_come r [] next = []
 all_come r (node ∷ nodes) next = comes r node next ∷ all_come r nodes (next_after r node next)
 
 -- the ids that come next behind them
-abbrev pub next_after_all : Revision → List NodeRev → Current → Current
+abbrev pub next_after_all : Revision → List NodeRev → Counter → Counter
 next_after_all r [] next = next
 next_after_all r (node ∷ nodes) next = next_after_all r nodes (next_after r node next)
 
@@ -87,7 +88,7 @@ next_after_all r (node ∷ nodes) next = next_after_all r nodes (next_after r no
 -- where it begins none: that of its predecessor, or that of its directory where there is no predecessor or the
 -- directory's begins in a later revision; the root of revision 0 has neither
 abbrev pub inherits : Revision → NodeRev → Option (NodeRev × Placed) → Option Copy → Copy
-inherits r node None None = begins r.number (counted 0) node
+inherits r node None None = begins r.number (counted None 0) node
 inherits r node None (Some above) = above
 inherits r node (Some before) None = copy_before before.1
 inherits r node (Some before) (Some above) = later_copy (copy_before before.1) above
@@ -224,33 +225,29 @@ ListsChanges r written changes = all_some (change_of r written) (listing r.chang
 -- ---- the file
 
 -- where each node comes from
-abbrev pub comes_here : Revision → Current → List Comes
-comes_here r next = all_come r (nodes_of r) next
+abbrev pub comes_here : Revision → Option NextIds → List Comes
+comes_here r ids = all_come r (nodes_of r) (counter_in ids r.number)
 
 -- the copy that each node is of
-abbrev pub copies_here : Revision → Current → List Copy
-copies_here r next = copies_of r 0 (nodes_of r) (comes_here r next)
+abbrev pub copies_here : Revision → Option NextIds → List Copy
+copies_here r ids = copies_of r 0 (nodes_of r) (comes_here r ids)
 
 -- the node revisions, one behind another
-abbrev pub pieces_here : Revision → Current → Option (List Piece)
-pieces_here r next = pieces_of r [] (nodes_of r) (comes_here r next) (copies_here r next)
+abbrev pub pieces_here : Revision → Option NextIds → Option (List Piece)
+pieces_here r ids = pieces_of r [] (nodes_of r) (comes_here r ids) (copies_here r ids)
 
--- this revision is the youngest, and the ids that its nodes took are taken
-abbrev pub current_after : Revision → Current → Current
-current_after r next = record {
-  youngest = r.number;
-  node = (next_after_all r (nodes_of r) next).node;
-  copy = (next_after_all r (nodes_of r) next).copy;
-}
+-- the ids that its nodes took are taken
+abbrev pub ids_here : Revision → Option NextIds → Option NextIds
+ids_here r ids = ids_after ids (next_after_all r (nodes_of r) (counter_in ids r.number))
 
 -- The file has the node revisions, the changes, and where the root, the last of the node revisions, and the changes
--- begin. This is what `current` says behind it.
-pub record IsLaidOut (r : Revision) (next : Current) (file : List ℕ) (after : Current) : Type 0 where
+-- begin. In format 2 these ids come next before it, and those after it; in format 3 there are none.
+pub record IsLaidOut (r : Revision) (ids : Option NextIds) (file : List ℕ) (after : Option NextIds) : Type 0 where
   pub pieces : List Piece
-  pub pieces_are : pieces_here r next ≡ Some pieces
+  pub pieces_are : pieces_here r ids ≡ Some pieces
   pub root : FileId
   pub root_is : slice_get (ids_of pieces) (length pieces - 1) ≡ Some root
   pub changes : List FileChange
   pub changes_are : ListsChanges r (ids_of pieces) changes
   pub file_is : file ≡ file_bytes pieces changes root.offset
-  pub after_is : after ≡ current_after r next
+  pub after_is : after ≡ ids_here r ids

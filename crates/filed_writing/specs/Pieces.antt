@@ -6,7 +6,7 @@ use Rattle.repo_api.specs.{Properties.PropertyList, declared.change.Action.Actio
 use Rattle.repo_api.specs.{declared.change.Change.Change, declared.change.Source.Source, declared.entry.Content.Content}
 use Rattle.repo_api.specs.declared.entry.Content.TheVariants as contents
 use Rattle.noderevs.specs.{declared.node_rev.NodeId.NodeId, declared.node_rev.NodeRev.NodeRev}
-use Rattle.fsfs_folder.specs.{Properties.properties_bytes}
+use Rattle.fsfs_folder.specs.{Properties.properties_bytes, declared.current.NextIds.NextIds}
 use Rattle.fsfs_dumps.specs.Dumps.{dump}
 use Rattle.fsfs_ids.specs.{Ids.id_text, declared.id.FileId.FileId, declared.id.IdPart.IdPart, declared.place.Place.Place}
 use Rattle.fsfs_ids.specs.declared.representation.Representation.{Representation}
@@ -16,6 +16,7 @@ use Rattle.fsfs_parts.specs.{declared.change.FileAction.FileAction, declared.cha
 use Rattle.fsfs_parts.specs.declared.change.FileAction.TheVariants as actions
 use Rattle.fsfs_writing.specs.Files.{Piece, piece_bytes, placed_node}
 use Rattle.filed_trees.specs.{declared.table.Placed.Placed}
+use Rattle.filed_writing.specs.declared.counter.Counter.{Counter}
 
 -- an action puts something at its path
 abbrev pub puts : Action → Bool
@@ -109,8 +110,19 @@ abbrev pub copied : Option Change → Option Source
 copied None = None
 copied (Some change) = copied_by change.action change.source
 
-abbrev pub counted : ℕ → IdPart
-counted n = record { number = n; revision = None }
+-- the id of a number, which is counted in a revision, or over all of them
+abbrev pub counted : Option ℕ → ℕ → IdPart
+counted revision n = record { number = n; revision = revision }
+
+-- the first new ids of revision n: in format 2 those that come next, in format 3 counted in the revision from 0
+abbrev pub counter_in : Option NextIds → ℕ → Counter
+counter_in (Some ids) n = record { revision = None; node = ids.node; copy = ids.copy }
+counter_in None n = record { revision = Some n; node = 0; copy = 0 }
+
+-- in format 2 the ids that come next after it, in format 3 none
+abbrev pub ids_after : Option NextIds → Counter → Option NextIds
+ids_after (Some ids) next = Some (record { node = next.node; copy = next.copy })
+ids_after None next = None
 
 abbrev pub next_number : ℕ → ℕ
 next_number n = min (n + 1) (2 ^ 128 - 1)
@@ -122,8 +134,8 @@ pub record Comes : Type 0 where
   pub predecessor : Option (NodeRev × Placed)
   pub copy : Option (IdPart × Source)
 
-abbrev pub node_of : Option (NodeRev × Placed) → ℕ → IdPart
-node_of None next = counted next
+abbrev pub node_of : Option (NodeRev × Placed) → Counter → IdPart
+node_of None next = counted next.revision next.node
 node_of (Some before) next = before.1.id.node
 
 abbrev pub after_node : Option (NodeRev × Placed) → ℕ → ℕ

@@ -1,13 +1,13 @@
 //! The ids that node revisions get: of their nodes, and of the copies that they are of.
 ghost use Rattle.std.specs.{Prelude.{◌≡◌, ◌≤◌, ◌-◌, IfOk, length, map, option_and_then, option_copied, option_map, reverse}, List.Sorted.IsStrictlySortedBy, Map.keys_of};
 ghost use Rattle.svnpath.specs.Paths.{path_cmp};
-ghost use Rattle.filed_writing.specs.{Drafts.{came_from, comes_of, copy_from}, Layout.{all_come, comes, copies_of, copy_of, known_from, made_from, next_after, next_after_all, nodes_of, place_above}, Pieces.{begins, copied, counted, next_number}};
+ghost use Rattle.filed_writing.specs.{Drafts.{came_from, comes_of, copy_from}, Layout.{all_come, comes, copies_of, copy_of, known_from, made_from, next_after, next_after_all, nodes_of, place_above}, Pieces.{begins, copied}};
 
+use crate::counter::{Counter, taken};
 use crate::origin::predecessor_of;
 use crate::revision::{Revision, puts};
 use crate::text::text_of;
 use filed_trees::Placed;
-use fsfs_folder::Current;
 use fsfs_ids::{IdPart, Place};
 use next_blocks::change_of;
 use noderevs::NodeRev;
@@ -44,19 +44,6 @@ pub struct CopyRoot {
     pub place: Place,
 }
 
-/// Takes the next number of a counter.
-fn taken(counter: &mut u128) -> IdPart
-    ensures given { result ≡ counted counter.old }
-    ensures next { counter.new ≡ next_number counter.old }
-{
-    let number = *counter;
-    *counter = number.saturating_add(1);
-    IdPart {
-        number,
-        revision: None,
-    }
-}
-
 /// Gives what a change copied to its path.
 fn copied(change: Option<&Change>) -> Option<&Source>
     ensures { option_copied result ≡ copied (option_copied change.entry) }
@@ -84,7 +71,7 @@ impl<'a> Revision<'a> {
     }
 
     /// Says what a node revision was made from, and gives it the ids that it takes itself.
-    fn origin(self, node: &NodeRev, next: &mut Current) -> Origin<'a>
+    fn origin(self, node: &NodeRev, next: &mut Counter) -> Origin<'a>
         requires { IsStrictlySortedBy path_cmp (keys_of self.changes.now) }
         ensures comes { comes_of result ≡ comes self.entry node.now next.old }
         ensures next { next.new ≡ next_after self.entry node.now next.old }
@@ -92,11 +79,11 @@ impl<'a> Revision<'a> {
         let predecessor = self.made_from(node);
         let number = match predecessor {
             Some(before) => before.placed.id.node,
-            None => taken(&mut next.node),
+            None => taken(next.revision, &mut next.node),
         };
         let copy = match copied(change_of(self.changes, node.path.components())) {
             Some(source) => Some(NewCopy {
-                id: taken(&mut next.copy),
+                id: taken(next.revision, &mut next.copy),
                 source,
             }),
             None => None,
@@ -109,7 +96,7 @@ impl<'a> Revision<'a> {
     }
 
     /// Says of each node revision of this revision what it was made from, in their order.
-    pub fn origins(self, alloc: Global, next: &mut Current) -> Result<Vec<Origin<'a>>, AllocError>
+    pub fn origins(self, alloc: Global, next: &mut Counter) -> Result<Vec<Origin<'a>>, AllocError>
         requires { IsStrictlySortedBy path_cmp (keys_of self.changes.now) }
         ensures all { IfOk result (λ origins. map comes_of origins.items
             ≡ all_come self.entry (nodes_of self.entry) next.old) }

@@ -4,10 +4,11 @@ ghost use Rattle.filed_writing.specs.{Drafts.{comes_of, copy_from}, Layout.{AreW
 ghost use Rattle.svnpath.specs.Paths.{path_cmp};
 
 use crate::copies::{CopyRoot, Origin};
+use crate::counter::Counter;
 use crate::node::Draft;
 use crate::revision::Revision;
 use filed_trees::Table;
-use fsfs_folder::Current;
+use fsfs_folder::NextIds;
 use fsfs_ids::FileId;
 use fsfs_writing::finish_file;
 use noderevs::Nodes;
@@ -16,11 +17,11 @@ use repo_api::Change;
 use std::alloc::{AllocError, Global};
 use svnpath::Path;
 
-/// Holds a revision's file, and what `current` says behind it.
+/// Holds a revision's file, and the ids that come next after it, where these are counted over all revisions.
 #[derive(Drop)]
 pub struct Written {
     pub file: Vec<u8>,
-    pub current: Current,
+    pub ids: Option<NextIds>,
 }
 
 impl Revision<'_> {
@@ -54,11 +55,11 @@ impl Revision<'_> {
     }
 
     /// Writes the whole file, and takes the ids that it needs from those that come next.
-    fn write_file(self, alloc: Global, current: Current) -> Result<Written, AllocError>
+    fn write_file(self, alloc: Global, ids: Option<NextIds>) -> Result<Written, AllocError>
         requires { IsStrictlySortedBy path_cmp (keys_of self.changes.now) }
-        ensures { IfOk result (λ made. IsLaidOut self.entry current made.file.items made.current) }
+        ensures { IfOk result (λ made. IsLaidOut self.entry ids made.file.items made.ids) }
     {
-        let mut next = current;
+        let mut next = Counter::new(ids, self.number);
         let origins = self.origins(alloc, &mut next)?;
         let roots = self.copy_roots(alloc, origins.as_slice())?;
         let (mut file, written) = self.write_nodes(alloc, origins.as_slice(), roots)?;
@@ -67,22 +68,21 @@ impl Revision<'_> {
         };
         let changes = self.file_changes(alloc, written.as_slice())?;
         finish_file(&mut file, root.offset, changes.as_slice())?;
-        next.youngest = self.number;
         Ok(Written {
             file,
-            current: next,
+            ids: next.ids_after(ids),
         })
     }
 }
 
-/// Writes the file of the youngest revision. The tables are those of the revisions before it, and
-/// `current` is what the file of this name says before it.
+/// Writes the file of the youngest revision. The tables are those of the revisions before it, and the ids are those that
+/// come next before it, where they are counted over all revisions.
 pub fn write_revision(
     alloc: Global,
     nodes: &Nodes,
     tables: &PVec<Table>,
     changes: &[(Path, Change)],
-    current: Current,
+    ids: Option<NextIds>,
 ) -> Result<Written, AllocError>
     requires { IsStrictlySortedBy path_cmp (keys_of changes.now) }
     ensures { IfOk result (λ made. IsLaidOut (record {
@@ -90,7 +90,7 @@ pub fn write_revision(
       nodes = nodes.entry;
       tables = tables.entry;
       changes = changes.entry;
-    }) current made.file.items made.current) }
+    }) ids made.file.items made.ids) }
 {
     let revision = Revision {
         number: tables.len() as u32,
@@ -98,5 +98,5 @@ pub fn write_revision(
         tables,
         changes,
     };
-    revision.write_file(alloc, current)
+    revision.write_file(alloc, ids)
 }

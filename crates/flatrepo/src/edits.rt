@@ -1,9 +1,10 @@
 //! The edits of a transaction's tree. An edit that lacks memory changes nothing.
 ghost use Rattle.repo_api.specs.{Edits.copied, States.trees_in};
-ghost use Rattle.flatrepo.specs.{Contents.revisions_of, Edits.{Applies, EditsTree}};
+ghost use Rattle.flat_trees.specs.Changing.{Applies};
+ghost use Rattle.flatrepo.specs.{Contents.revisions_of, Edits.EditsTree};
 
 use crate::flat_content::FlatContent;
-use crate::flat_tree::FlatTree;
+use flat_trees::FlatTree;
 use repo_api::{Content, EditOp, FileText, Source};
 use std::alloc::{AllocError, Global};
 use svnpath::Path;

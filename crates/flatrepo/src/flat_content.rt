@@ -1,7 +1,7 @@
 //! What a repository holds.
 ghost use Rattle.std.specs.{Prelude.◌≡◌, FinMap.empty};
 
-use crate::flat_tree::FlatTree;
+use flat_trees::FlatTree;
 use repo_api::Properties;
 use revision_data::ChangeList;
 use std::sync::Arc;

@@ -1,6 +1,6 @@
 //! What an open transaction has.
 use crate::flat_content::FlatContent;
-use crate::flat_tree::FlatTree;
+use flat_trees::FlatTree;
 use revision_data::TxnChanges;
 use std::sync::Arc;
 

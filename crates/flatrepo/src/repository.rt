@@ -10,11 +10,10 @@ ghost use Rattle.flatrepo.specs.{Contents.{flat_state, HasRevision, revisions_of
 use crate::edits::edit_tree;
 use crate::flat_content::{FlatContent, FlatRevision};
 use crate::flat_repo::FlatRepo;
-use crate::flat_tree::FlatTree;
 use crate::flat_txn::FlatTxn;
-use crate::looking::{created, kind, properties, text};
 use byte_string::ByteString;
 use dates::date_bytes;
+use flat_trees::{FlatTree, created, kind, properties, text};
 use pathlocks::{Locks, lock_shared, put_shared, release_shared, unlock_shared};
 use refusals::Refusal;
 use repo_api::{

@@ -5,8 +5,8 @@ ghost use Rattle.repo_api.specs.{RevisionProperties.{property_changed, with_chan
 ghost use Rattle.flatrepo.specs.Contents.{fixed_of, HasRevision, values, revisions_of, properties_of, flat_state};
 
 use crate::flat_content::{FlatContent, FlatRevision};
-use crate::flat_tree::FlatTree;
 use byte_string::ByteString;
+use flat_trees::FlatTree;
 use repo_api::{Change, Properties};
 use revision_data::{ChangeList, changed_property, opening_properties};
 use std::alloc::{AllocError, Global};

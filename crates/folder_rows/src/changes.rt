@@ -14,7 +14,7 @@ const MESSAGE: &[u8] = b"hello";
 // The properties of revision 0 before it has the message, and with it, from the rules of the format.
 const BEFORE: &[u8] = b"K 8\nsvn:date\nV 27\n1970-01-01T00:00:00.000000Z\nEND\n";
 
-const BEHIND: &[u8] =
+const AFTER: &[u8] =
     b"K 8\nsvn:date\nV 27\n1970-01-01T00:00:00.000000Z\nK 7\nsvn:log\nV 5\nhello\nEND\n";
 
 /// Makes the name of the property that has the message.
@@ -32,10 +32,11 @@ fn ask_for(alloc: Global) -> Result<PropertyAsk, AllocError> {
     })
 }
 
-/// Makes the files of a new repository.
-fn new_files(alloc: Global) -> Result<MemoryStore, Fail> {
+/// Makes the files of a new repository: of format 3 where its revision 0 has a shard, else of format 2.
+fn new_files(alloc: Global, shard: Option<u32>) -> Result<MemoryStore, Fail> {
     let mut store = MemoryStore::new(alloc);
-    create(alloc, &mut store, 0, 0)?;
+    let format = if shard.is_some() { 3 } else { 2 };
+    create(alloc, &mut store, 0, 0, format)?;
     Ok(store)
 }
 
@@ -70,8 +71,8 @@ fn has_message<R: Repository>(alloc: Global, repository: &R) -> Result<bool, All
 }
 
 /// Says whether these are the properties of revision 0 in a store's files.
-fn has_file(store: &MemoryStore, wanted: &[u8]) -> bool {
-    match store.bytes(FileName::Properties(0)) {
+fn has_file(store: &MemoryStore, shard: Option<u32>, wanted: &[u8]) -> bool {
+    match store.bytes(FileName::Properties(shard, 0)) {
         Some(bytes) => bytes == wanted,
         None => false,
     }
@@ -85,38 +86,46 @@ fn is_found(alloc: Global, store: MemoryStore) -> Result<bool, Fail> {
 }
 
 /// Says whether a change is found in the files of its repository, and by one that is opened from them.
-fn is_kept(alloc: Global) -> Result<bool, Fail> {
-    let files = new_files(alloc)?;
+fn is_kept(alloc: Global, shard: Option<u32>) -> Result<bool, Fail> {
+    let files = new_files(alloc, shard)?;
     files.is_at_rest();
     let mut stored = opened(alloc, files)?;
     let is_made = change(alloc, &mut stored)?.is_ok();
-    let is_there = has_file(stored.store(), BEHIND);
+    let is_there = has_file(stored.store(), shard, AFTER);
     Ok(is_made && is_there && is_found(alloc, stored.into_store())?)
 }
 
 /// Says whether a change comes to a halt whose replacement fails and leaves this; whether then the file is as it is
 /// wanted; and whether a repository that is opened from the files has what they say.
-fn is_halted_with(alloc: Global, left: Left, wanted: &[u8], is_new: bool) -> Result<bool, Fail> {
-    let files = new_files(alloc)?;
+fn is_halted_with(
+    alloc: Global,
+    shard: Option<u32>,
+    left: Left,
+    wanted: &[u8],
+) -> Result<bool, Fail> {
+    let files = new_files(alloc, shard)?;
     files.is_at_rest();
     let mut stored = opened(alloc, FuseStore::new(files, 0, left))?;
     let is_halt = matches!(change(alloc, &mut stored)?, Err(ChangeFault::Halted));
-    let is_there = has_file(stored.store().inner(), wanted);
+    let is_there = has_file(stored.store().inner(), shard, wanted);
     let is_shown = has_message(alloc, stored.repository())?;
     let found = is_found(alloc, stored.into_store().into_inner())?;
-    Ok(is_halt && is_there && !is_shown && found == is_new)
+    Ok(is_halt && is_there && !is_shown && found == (wanted == AFTER))
 }
 
 #[test]
 fn a_change_is_found_again(rt: HostRuntime) -> Result<(), Fail> {
-    assert!(rt; is_kept(rt.alloc())?);
+    assert!(rt; is_kept(rt.alloc(), None)?);
+    assert!(rt; is_kept(rt.alloc(), Some(0))?);
     Ok(())
 }
 
 #[test]
-fn a_halt_leaves_what_was_before_or_behind_the_change(rt: HostRuntime) -> Result<(), Fail> {
-    assert!(rt; is_halted_with(rt.alloc(), Left::Old, BEFORE, false)?);
-    assert!(rt; is_halted_with(rt.alloc(), Left::Torn, BEFORE, false)?);
-    assert!(rt; is_halted_with(rt.alloc(), Left::New, BEHIND, true)?);
+fn a_halt_leaves_what_was_before_or_after_the_change(rt: HostRuntime) -> Result<(), Fail> {
+    for shard in [None, Some(0)] {
+        assert!(rt; is_halted_with(rt.alloc(), shard, Left::Old, BEFORE)?);
+        assert!(rt; is_halted_with(rt.alloc(), shard, Left::Torn, BEFORE)?);
+        assert!(rt; is_halted_with(rt.alloc(), shard, Left::New, AFTER)?);
+    }
     Ok(())
 }

@@ -6,3 +6,5 @@
 mod changes;
 #[cfg(test)]
 mod folders;
+#[cfg(test)]
+mod migrating;

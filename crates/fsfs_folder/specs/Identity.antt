@@ -1,4 +1,4 @@
--- The files `format`, `fs-type` and `uuid`.
+-- The file `uuid`.
 use Rattle.std.specs.{Prelude.{ℕ, ◌==◌, List, [], ◌∷◌, ◌++◌, length, Option, None, option_map, Result, if◌then◌else◌}, Int.{to_be_bytes, from_be_bytes, w128}}
 use Rattle.uuid.specs.Text.{hyphenated_text, lower, parsed}
 use Rattle.fsfs_lines.specs.{declared.fault.FileFault.FileFault, Reading.{or_bad, ◌>>=◌}}

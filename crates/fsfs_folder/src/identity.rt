@@ -1,5 +1,5 @@
-//! The files `format` and `uuid`.
-ghost use Rattle.std.specs.Prelude.{◌≡◌, ◌++◌, ◌↔◌, OnOk, IsOk, IfErr, codes};
+//! The file `uuid`.
+ghost use Rattle.std.specs.Prelude.{◌≡◌, ◌++◌, OnOk};
 ghost use Rattle.fsfs_lines.specs.Reading.{Gives};
 ghost use Rattle.fsfs_folder.specs.Identity.{uuid_bytes, uuid_line, uuid_of};
 
@@ -7,25 +7,6 @@ use crate::current::read_line_alone;
 use fsfs_lines::FileFault;
 use std::alloc::AllocError;
 use uuid::Uuid;
-
-/// Says what the file `format` holds.
-pub const FORMAT_BYTES: &[u8] = b"2\n";
-
-/// Judges the file `format`.
-///
-/// # Errors
-///
-/// `WrongFormat` where it is of any other format.
-pub fn check_format(bytes: &[u8]) -> Result<(), FileFault>
-    ensures ok { IsOk result ↔ (bytes.now ≡ codes "2\n") }
-    ensures err { IfErr result (λ fault. fault ≡ FileFault.WrongFormat) }
-{
-    if bytes == FORMAT_BYTES {
-        Ok(())
-    } else {
-        Err(FileFault::WrongFormat)
-    }
-}
 
 /// Appends the text of a repository's 128 bits and a line feed.
 pub fn append_uuid(out: &mut Vec<u8>, uuid: u128) -> Result<(), AllocError>

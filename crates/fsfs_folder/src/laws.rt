@@ -5,5 +5,5 @@ ghost use Rattle.fsfs_folder.specs.{Current.{current_bytes, current_of, CurrentF
 /// Shows that the file `current` that was written is read again.
 pub fn a_current_is_read_again()
     ensures { (current : Current) → CurrentFits current
-        → current_of (current_bytes current) ≡ Ok current }
+        → current_of current.format (current_bytes current) ≡ Ok current }
 {}

@@ -1,5 +1,5 @@
-//! The small files of a repository's folder: its format, its name, its youngest revision with the ids
-//! that come next, the properties of revisions, and the locks.
+//! The small files of a repository's folder: its name, its youngest revision with the ids that come next, the
+//! properties of revisions, and the locks.
 #![tactic(auto)]
 
 mod current;
@@ -9,8 +9,8 @@ mod locks;
 mod properties;
 mod rows;
 
-pub use current::{Current, append_current, read_current};
-pub use identity::{FORMAT_BYTES, append_uuid, check_format, read_uuid};
+pub use current::{Current, NextIds, append_current, read_current};
+pub use identity::{append_uuid, read_uuid};
 pub use laws::a_current_is_read_again;
 pub use locks::{read_locks, write_locks};
 pub use properties::{read_properties, write_properties};

@@ -9,6 +9,15 @@ use std::test::Fail;
 const FILE: &[u8] =
     b"PLAIN\nhello\nENDREP\nid: 1.0.r1/19\ntype: file\ncount: 0\ntext: 1 0 6 6 b1946ac92492d2347c6235b4d2611184\ncpath: /a\ncopyroot: 0 /\n\nPLAIN\nK 1\na\nV 14\nfile 1.0.r1/19\nEND\nENDREP\nid: 0.0.r1/168\ntype: dir\npred: 0.0.r0/17\ncount: 1\ntext: 1 125 30 30 4885e3681d4e920f6506e681bebd1ebe\ncpath: /\ncopyroot: 0 /\n\n1.0.r1/19 add true false /a\n\n\n168 293\n";
 
+// Revisions 1 and 2 of a folder of format 3, with Python's digests: the files `/a` and `/b` of `hello`. Their node ids
+// are the first ones of their revisions.
+const FILE_3: &[u8] =
+    b"PLAIN\nhello\nENDREP\nid: 0-1.0.r1/19\ntype: file\ncount: 0\ntext: 1 0 6 6 b1946ac92492d2347c6235b4d2611184\ncpath: /a\ncopyroot: 0 /\n\nPLAIN\nK 1\na\nV 16\nfile 0-1.0.r1/19\nEND\nENDREP\nid: 0.0.r1/172\ntype: dir\npred: 0.0.r0/17\ncount: 1\ntext: 1 127 32 32 32ae639a54b2b5c7553c19ebd3ce36fc\ncpath: /\ncopyroot: 0 /\n\n0-1.0.r1/19 add true false /a\n\n\n172 297\n";
+
+// Revision 2 of a folder that was migrated: the node id of `/a` is still that of format 2.
+const SECOND: &[u8] =
+    b"PLAIN\nhello\nENDREP\nid: 0-2.0.r2/19\ntype: file\ncount: 0\ntext: 2 0 6 6 b1946ac92492d2347c6235b4d2611184\ncpath: /b\ncopyroot: 0 /\n\nPLAIN\nK 1\na\nV 14\nfile 1.0.r1/19\nK 1\nb\nV 16\nfile 0-2.0.r2/19\nEND\nENDREP\nid: 0.0.r2/198\ntype: dir\npred: 0.0.r1/168\ncount: 2\ntext: 2 127 58 58 ca763b60fec64dc26c3f9edfac7236cb\ncpath: /\ncopyroot: 0 /\n\n0-2.0.r2/19 add true false /b\n\n\n198 324\n";
+
 // Revision 1 of a folder of Subversion 1.14.2 in format 2, an import of the same file, whose text is a delta.
 const DELTA: &[u8] =
     b"DELTA\nSVN\x01\x00\x00\x06\x02\x07\x01\x86\x06hello\nENDREP\nid: 1.0.r1/31\ntype: file\ncount: 0\ntext: 1 0 18 6 b1946ac92492d2347c6235b4d2611184\ncpath: /a\ncopyroot: 0 /\n\nPLAIN\nK 1\na\nV 14\nfile 1.0.r1/31\nEND\nENDREP\nid: 0.0.r1/181\ntype: dir\npred: 0.0.r0/17\ncount: 1\ntext: 1 138 30 30 848b924252e6c3bebe3823bdd85d3bdf\ncpath: /\ncopyroot: 0 /\n\n_0.0.t0-1 add true false /a\n\n\n181 306\n";
@@ -26,9 +35,9 @@ const REVISIONS: [&[u8]; 4] = [
     b"PLAIN\nK 4\ntags\nV 14\ndir 1.0.r2/132\nEND\nENDREP\nid: 0.0.r3/46\ntype: dir\npred: 0.0.r2/334\ncount: 3\ntext: 3 0 33 33 a9001df220ea641a3f5ff93279e78c34\ncpath: /\ncopyroot: 0 /\n\n2.0.r1/60 delete false false /trunk\n\n\n46 169\n",
 ];
 
-/// Makes the bytes with another byte at a place.
-fn changed(alloc: Global, place: usize, byte: u8) -> Result<Vec<u8>, Fail> {
-    let mut bytes = Vec::from_slice(alloc, FILE)?;
+/// Makes the bytes of a file with another byte at a place.
+fn changed(alloc: Global, file: &[u8], place: usize, byte: u8) -> Result<Vec<u8>, Fail> {
+    let mut bytes = Vec::from_slice(alloc, file)?;
     if let Some(old) = bytes.get_mut(place) {
         *old = byte;
     }
@@ -45,9 +54,11 @@ fn piece<'a>(file: &'a RevisionFile, path: &[u8]) -> Result<&'a FilePiece, Fail>
     Err(Fail::from("there is no such node revision"))
 }
 
-/// Says whether this is the row's node revision of the root.
-fn is_root(piece: &FilePiece) -> bool {
-    piece.node.kind == EntryKind::Directory && piece.node.id.offset == 168 && piece.node.count == 1
+/// Says whether this is the row's node revision of the root, which is at an offset.
+fn is_root(piece: &FilePiece, offset: u64) -> bool {
+    piece.node.kind == EntryKind::Directory
+        && piece.node.id.offset == offset
+        && piece.node.count == 1
 }
 
 /// Says whether this is the row's node revision of the file.
@@ -70,42 +81,65 @@ fn is_addition(change: &FileChange) -> bool {
         && change.source.is_none()
 }
 
-/// Says whether this is the row.
-fn is_row(file: &RevisionFile) -> Result<bool, Fail> {
+/// Says whether this is the row, in which the root is at an offset.
+fn is_row(file: &RevisionFile, offset: u64) -> Result<bool, Fail> {
     let change = file.changes.first().ok_or("there is a change")?;
     Ok(
         file.pieces.len() == 2
             && file.changes.len() == 1
-            && is_root(piece(file, b"/")?)
+            && is_root(piece(file, b"/")?, offset)
             && is_file(piece(file, b"/a")?)
             && is_addition(change),
     )
 }
 
-#[test]
-fn the_row_is_read(rt: HostRuntime) -> Result<(), Fail> {
-    let file = read_revision(rt.alloc(), 1, FILE)?;
-    assert!(rt; is_row(&file)?);
-    Ok(())
+/// Says whether the node id of the file is counted in a revision, and by which number.
+fn has_node(file: &RevisionFile, number: u128, revision: Option<u32>) -> Result<bool, Fail> {
+    let id = piece(file, b"/a")?.node.id.node;
+    Ok(id.number == number && id.revision == revision)
 }
 
 #[test]
+fn the_row_is_read(rt: HostRuntime) -> Result<(), Fail> {
+    let two = read_revision(rt.alloc(), 1, FILE)?;
+    assert!(rt; is_row(&two, 168)? && has_node(&two, 1, None)?);
+    let three = read_revision(rt.alloc(), 1, FILE_3)?;
+    assert!(rt; is_row(&three, 172)? && has_node(&three, 0, Some(1))?);
+    Ok(())
+}
+
+/// The files, with the numbers of their revisions.
+const FILES: [(u32, &[u8]); 3] = [(1, FILE), (1, FILE_3), (2, SECOND)];
+
+#[test]
 fn a_beginning_is_a_fault(rt: HostRuntime) {
-    for end in 0..FILE.len() {
-        if let Some(front) = FILE.get(..end) {
-            assert!(rt; read_revision(rt.alloc(), 1, front).is_err());
+    for (number, file) in &FILES {
+        for end in 0..file.len() {
+            if let Some(front) = file.get(..end) {
+                assert!(rt; read_revision(rt.alloc(), *number, front).is_err());
+            }
         }
     }
 }
 
+/// Says whether a file with another byte at any place of it is a revision or faulty.
+fn are_changes_judged(alloc: Global, number: u32, file: &[u8], byte: u8) -> Result<bool, Fail> {
+    for place in 0..file.len() {
+        let bytes = changed(alloc, file, place, byte)?;
+        if let Err(fault) = read_revision(alloc, number, bytes.as_slice()) {
+            if matches!(fault, FileFault::NoMemory | FileFault::WrongFormat) {
+                return Ok(false);
+            }
+        }
+    }
+    Ok(true)
+}
+
 #[test]
 fn a_changed_byte_is_read_or_a_fault(rt: HostRuntime) -> Result<(), Fail> {
-    for place in 0..FILE.len() {
+    for (number, file) in &FILES {
         for byte in [0, 10, 255] {
-            let bytes = changed(rt.alloc(), place, byte)?;
-            if let Err(fault) = read_revision(rt.alloc(), 1, bytes.as_slice()) {
-                assert!(rt; !matches!(fault, FileFault::NoMemory | FileFault::WrongFormat));
-            }
+            assert!(rt; are_changes_judged(rt.alloc(), *number, file, byte)?);
         }
     }
     Ok(())
@@ -125,7 +159,7 @@ fn with_delta(alloc: Global) -> Result<Vec<u8>, Fail> {
 
 /// Says how the bytes with another byte at a place are refused, if they are.
 fn changed_fault(alloc: Global, place: usize, byte: u8) -> Result<Option<FileFault>, Fail> {
-    let bytes = changed(alloc, place, byte)?;
+    let bytes = changed(alloc, FILE, place, byte)?;
     Ok(fault_of(alloc, bytes.as_slice()))
 }
 

@@ -3,8 +3,8 @@ use Rattle.std.proofs.Common.{◌≡◌, ◌<◌, ◌≤◌, ℕ, zero, suc, Boo
 use Rattle.std.specs.Prelude.{◌==◌, ◌&&◌, ◌||◌, nat_le}
 use borrow.Author.Tests.{eqb-true, le-leb}
 use Rattle.repo_api.specs.Histories.{History}
-use Rattle.history.specs.{Traces.{trace_below, trace, traced, next_place, IsBelow}, Logs.{listed, is_listed, is_touched, is_among, is_logged, found_from}}
-use Rattle.history.specs.{declared.place.Place.Place, declared.listed.Listed.Listed}
+use Rattle.traces.specs.{Traces.{trace_below, trace, traced, next_place, IsBelow}, Touching.is_touched, declared.place.Place.Place}
+use Rattle.history.specs.{Logs.{listed, is_listed, is_among, is_logged, found_from}, declared.listed.Listed.Listed}
 use Rattle.history.proofs.Steps.{at_one, listed_by, not_equal}
 
 -- one place more

@@ -9,3 +9,5 @@ pub mod Logging
 pub mod Orders
 pub mod OnTraces
 pub mod Passing
+pub mod Lines
+pub mod Naming

@@ -8,7 +8,8 @@ use borrow.Author.Tests.{eqb-true}
 use Rattle.svnpath.specs.Paths.{PathValue}
 use Rattle.repo_api.specs.States.{RepoState}
 use Rattle.history.proofs.Steps.{not_equal}
-use Rattle.history.specs.{Logs.is_among, Locations.{each_once, located_in, location}, declared.place.Place.Place}
+use Rattle.traces.specs.declared.place.Place.{Place}
+use Rattle.history.specs.{Logs.is_among, Locations.{each_once, located_in, location}}
 
 same_turned : (m n : ℕ) (b : Bool) → (m == n) ≡ b → (n == m) ≡ b
 same_turned m n true same = eq-eqb n m (sym (eqb-true m n same))

@@ -6,8 +6,9 @@ use Rattle.std.proofs.{lemmas.List.Kept.{AllPairs-cons, AllPairs-filter}, lemmas
 use Rattle.std.specs.{List.{AllPairs, All}, Prelude.{if◌then◌else◌, filter, nat_le, ◌==◌}}
 use borrow.Author.Tests.{eqb-true, le-leb, lt-leb}
 use Rattle.repo_api.specs.Histories.{History}
-use Rattle.history.specs.{Traces.{trace_below, next_place}, Logs.{limited, is_of_log, newest_asked, oldest_asked, revisions_down, revisions_from}}
-use Rattle.history.specs.{Laws.{TracesFall, LogsAreRight}, declared.place.Place.Place, declared.log_ask.LogAsk.LogAsk}
+use Rattle.traces.specs.{Traces.{trace_below, next_place}, declared.place.Place.Place}
+use Rattle.history.specs.{Logs.{limited, is_of_log, newest_asked, oldest_asked, revisions_down, revisions_from}, Laws.{TracesFall, LogsAreRight}}
+use Rattle.history.specs.declared.log_ask.LogAsk.{LogAsk}
 use Rattle.history.proofs.Steps.{at_one}
 
 no_pairs : {X : Type 0} (R : X → X → Type 0) → AllPairs R []

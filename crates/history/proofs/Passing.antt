@@ -6,8 +6,10 @@ use Rattle.std.specs.{List.{All, Contains, find}, Prelude.{if◌then◌else◌, 
 use borrow.Author.Tests.{eqb-true, eqb-false}
 use Rattle.svnpath.specs.Paths.{Component, is_at_or_under, PathValue}
 use Rattle.repo_api.specs.Histories.{Changed, History, IsQuiet, IsQuietSince}
-use Rattle.history.specs.Traces.{makes, decides, deciding_change, earlier, place_by, is_from, is_copy_by, next_place, trace, trace_below}
-use Rattle.history.specs.{Logs.{listed, is_touched, touches, place_at}, Locations.{path_in, location_back}, declared.place.Place.Place}
+use Rattle.traces.specs.Traces.{makes, decides, deciding_change, earlier, place_by, is_from, is_copy_by, next_place, trace, trace_below}
+use Rattle.history.specs.{Logs.{listed, place_at}, Locations.{path_in}, Gathered.GoesOn}
+use Rattle.traces.specs.declared.place.Place.{Place}
+use Rattle.traces.specs.Touching.{is_touched, touches}
 use Rattle.history.proofs.Steps.{trace_is, listed_by, not_equal, path_past}
 
 reversed : {X : Type 0} (P : X → Type 0) (xs : List X) → All P xs → All P (reverse xs)
@@ -122,7 +124,7 @@ listed_settled h strict low at k named within quiet = by at.path named quiet
     by [] named quiet = absurd (named refl)
     by (c ∷ p) named quiet = listed_since h strict low c p k at.revision within quiet
 
-pub path_settled : (h : History) (at : Place) (r k j : ℕ) → j ≡ max k r → r ≤ at.revision → k ≤ at.revision → IsQuietSince h at.path k at.revision
-    → location_back h at r ≡ location_back h (place_at j at.path) r
-path_settled h at r k j is low within quiet =
-    path_since h false r at.path j at.revision (omega (arith, is)) (omega (arith, is, low, within)) (λ m after upto. quiet m (omega (arith, is, after)) upto)
+-- of a place that is settled, in each revision up to one
+pub goes_settled : (h : History) (at : Place) (r k j : ℕ) → j ≡ max k r → r ≤ at.revision → k ≤ at.revision → IsQuietSince h at.path k at.revision → GoesOn h (Some at) r (Some (place_at j at.path))
+goes_settled h at r k j is low within quiet n upto =
+    sym (path_since h false n at.path j at.revision (omega (arith, is, upto)) (omega (arith, is, low, within)) (λ m after below. quiet m (omega (arith, is, after)) below))

@@ -3,8 +3,8 @@ use Rattle.std.proofs.Common.{◌≡◌, ◌<◌, ◌≤◌, ℕ, zero, suc, Boo
 use Rattle.std.specs.Prelude.{◌==◌, ◌&&◌, if◌then◌else◌}
 use borrow.Author.Tests.{eqb-true, eqb-false, le-leb, lt-leb}
 use Rattle.repo_api.specs.Histories.{History}
-use Rattle.history.specs.{Traces.{trace_below, trace, traced, next_place}, Logs.{listed, is_listed, is_touched}, Locations.{path_in, location_back}}
-use Rattle.history.specs.declared.place.Place.{Place}
+use Rattle.traces.specs.{Traces.{trace_below, trace, traced, next_place}, Touching.is_touched, declared.place.Place.Place}
+use Rattle.history.specs.{Logs.{listed, is_listed}, Locations.{path_in, location_back}}
 
 -- one revision of a trace
 pub at_one : (h : History) (strict : Bool) (n : ℕ) (p : Place) (b : Bool) → (p.revision == n) ≡ b

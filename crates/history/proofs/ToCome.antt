@@ -3,8 +3,9 @@ use Rattle.std.proofs.Common.{◌≡◌, ◌<◌, ◌≤◌, ℕ, suc, Bool, tru
 use Rattle.std.specs.Prelude.{◌==◌, ◌&&◌, ◌||◌, filter}
 use borrow.Author.Tests.{eqb-false, le-leb, lt-leb}
 use Rattle.repo_api.specs.Histories.{History}
-use Rattle.history.specs.{Traces.traced, Logs.{listed, is_among, is_logged, found_from, revisions_down}, Walks.{above_head, above_heads, is_coming, coming}}
-use Rattle.history.specs.{declared.place.Place.Place, declared.listed.Listed.Listed}
+use Rattle.traces.specs.{Traces.traced, declared.place.Place.Place}
+use Rattle.history.specs.{Logs.{listed, is_among, is_logged, found_from, revisions_down}, Walks.{above_head, above_heads, is_coming, coming}}
+use Rattle.history.specs.declared.listed.Listed.{Listed}
 use Rattle.history.proofs.{Among.{none_past_head, logged_from}, Downward.{down_same, down_to, down_from, down_first}}
 
 none_past : (h : History) (strict : Bool) (low n : ℕ) (head : Option Listed) → above_head head ≤ n → is_among n (found_from h strict low head) ≡ false

@@ -3,8 +3,9 @@ use Rattle.std.proofs.Common.{◌≡◌, ◌<◌, ◌≤◌, ℕ, suc, Bool, tru
 use Rattle.std.proofs.{Common.{take, get_or, ◌+◌, subst, Result, Ok, Err, IfOk}, lemmas.List.{take_more, map_more}, lemmas.List.Folds.list_any-append}
 use Rattle.std.specs.Prelude.{◌==◌, ◌||◌, max}
 use Rattle.repo_api.specs.Histories.{History}
-use Rattle.history.specs.{Traces.{trace, traced}, Logs.{place_at, listed, is_among, is_logged, found_from, IsNext}}
-use Rattle.history.specs.{Walks.{above_head, above_heads, is_coming, IsPast, AreFirst}, declared.place.Place.Place, declared.listed.Listed.Listed}
+use Rattle.traces.specs.{Traces.{trace, traced}, declared.place.Place.Place}
+use Rattle.history.specs.{Logs.{place_at, listed, is_among, is_logged, found_from, IsNext}, Walks.{above_head, above_heads, is_coming, IsPast, AreFirst}}
+use Rattle.history.specs.declared.listed.Listed.{Listed}
 use Rattle.svnpath.specs.Paths.{PathValue}
 use Rattle.history.proofs.{Steps.not_equal, Among.{none_from_below, none_above_place}}
 

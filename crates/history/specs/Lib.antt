@@ -1,6 +1,6 @@
-pub mod Traces
 pub mod Logs
 pub mod Locations
+pub mod Gathered
 pub mod Dates
 pub mod Walks
 pub mod Laws

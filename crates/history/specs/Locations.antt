@@ -4,7 +4,7 @@ use Rattle.svnpath.specs.Paths.{PathValue, same_path}
 use Rattle.repo_api.specs.{declared.entry.NodeKind.NodeKind, declared.change.Action.Action, declared.change.Action.TheVariants.{Add, Delete, Replace, Modify}}
 use Rattle.repo_api.specs.{Histories.{Changed, History, history_of}, Kinds.kind_at, States.RepoState}
 use Rattle.repo_api.specs.declared.entry.NodeKind.TheVariants as kinds
-use Rattle.history.specs.{Traces.{trace, place_before}, declared.place.Place.Place}
+use Rattle.traces.specs.{Traces.{trace, place_before}, declared.place.Place.Place}
 
 abbrev pub kind_in_place : RepoState → Option Place → NodeKind
 kind_in_place c None = kinds.Absent

@@ -1,18 +1,10 @@
 -- Which revisions a log lists.
-use Rattle.std.specs.Prelude.{◌≡◌, ℕ, zero, suc, ◌==◌, Bool, true, ◌&&◌, ◌||◌, List, [], ◌∷◌, Option, Some, None, if◌then◌else◌, map, filter, take, max, min}
-use Rattle.std.specs.{Prelude.{nat_le, reverse}, List.list_any}
-use Rattle.svnpath.specs.Paths.{is_at_or_under, PathValue}
-use Rattle.repo_api.specs.Histories.{Changed, History}
-use Rattle.history.specs.{Traces.{is_from, trace, traced}, declared.place.Place.Place, declared.listed.Listed.Listed, declared.log_ask.LogAsk.LogAsk}
-
--- a change at or under the path, or a copy at or above it
-abbrev pub touches : PathValue → Changed → Bool
-touches p e = is_at_or_under e.0 p || (is_from e.1.source && is_at_or_under p e.0)
-
--- whether the revision is listed where a trace has it at p; for the root each is
-abbrev pub is_touched : List Changed → PathValue → Bool
-is_touched changes [] = true
-is_touched changes (c ∷ p) = list_any (touches (c ∷ p)) changes
+use Rattle.std.specs.Prelude.{◌≡◌, ℕ, zero, suc, ◌==◌, Bool, ◌&&◌, List, [], ◌∷◌, Option, Some, None, if◌then◌else◌, map, filter, take, max, min, nat_le}
+use Rattle.std.specs.{Prelude.reverse, List.list_any}
+use Rattle.svnpath.specs.Paths.{PathValue}
+use Rattle.repo_api.specs.Histories.{History}
+use Rattle.traces.specs.{Touching.is_touched, Traces.{trace, traced}, declared.place.Place.Place}
+use Rattle.history.specs.{declared.listed.Listed.Listed, declared.log_ask.LogAsk.LogAsk}
 
 -- the places of a trace at which its revision is listed
 abbrev pub is_listed : History → ℕ → Place → Bool
@@ -83,3 +75,8 @@ is_of_log h ask paths = is_logged h ask.strict 0 (log_places ask paths)
 abbrev pub log : History → LogAsk → List PathValue → List ℕ
 log h ask paths =
     limited ask.limit (filter (is_of_log h ask paths) (revisions_from ask.start ask.end))
+
+-- the same paths stand in both lists, however often
+abbrev pub AreSameNamed : List PathValue → List PathValue → Type 0
+AreSameNamed named paths =
+    (test : PathValue → Bool) → list_any test named ≡ list_any test paths

@@ -1,8 +1,9 @@
 -- What is still to come of a log that goes out revision by revision.
 use Rattle.std.specs.{Prelude.{◌==◌, ◌-◌, false, ◌≡◌, ◌<◌, ◌≤◌, ℕ, suc, Bool, List, [], ◌∷◌, Option, Some, None, filter, take, max, reverse}, List.list_any}
 use Rattle.repo_api.specs.Histories.{History}
-use Rattle.history.specs.{Logs.{found_from, is_among, is_logged, revisions_down}, declared.place.Place.Place, declared.listed.Listed.Listed}
-use Rattle.history.specs.{declared.walks.Walks.Walks, declared.coming.Coming.Coming, declared.coming.Coming.TheVariants.{Falling, Rising}, declared.log.Log.Log}
+use Rattle.traces.specs.declared.place.Place.{Place}
+use Rattle.history.specs.{Logs.{found_from, is_among, is_logged, revisions_down}, declared.listed.Listed.Listed, declared.walks.Walks.Walks}
+use Rattle.history.specs.{declared.coming.Coming.Coming, declared.coming.Coming.TheVariants.{Falling, Rising}, declared.log.Log.Log}
 
 -- one more than the revision that a walk has found
 abbrev pub above_head : Option Listed → ℕ

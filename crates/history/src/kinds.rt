@@ -2,11 +2,10 @@
 ghost use Rattle.std.specs.Prelude.{◌≡◌, IfOk};
 ghost use Rattle.history.specs.Locations.{kind_shown, kind_before, kind_in_place};
 
-use crate::changes::place_before;
-use crate::place::Place;
 use repo_api::{Action, Change, NodeKind, Repository};
 use std::alloc::{AllocError, Global};
 use svnpath::Path;
+use traces::{Place, place_before};
 
 /// Gives the kind that a log shows for a change: of what is there now, or of what was deleted, at its place before.
 pub fn kind_shown<R: Repository>(

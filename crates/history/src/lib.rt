@@ -1,20 +1,18 @@
 //! The history of places, read off the lists of changes: traces, logs, and where a place was or went.
 #![tactic(auto)]
 
-mod changes;
 mod coming;
 mod dates;
+mod gathering;
 mod kinds;
 mod laws;
 mod listed;
 mod locating;
 mod log;
 mod log_ask;
-mod place;
 mod walk;
 mod walks;
 
-pub use changes::{is_touched, next_place, place_before};
 pub use dates::{dated_rev, is_date_text};
 pub use kinds::kind_shown;
 pub use laws::{
@@ -24,5 +22,5 @@ pub use listed::Listed;
 pub use locating::{each_once, location, locations};
 pub use log::Log;
 pub use log_ask::LogAsk;
-pub use place::Place;
+pub use traces::Place;
 pub use walk::{next_listed, step_back};

@@ -1,7 +1,7 @@
 //! A revision that a log lists.
-ghost use Rattle.history.specs.Traces.{IsBelow};
+ghost use Rattle.traces.specs.Traces.{IsBelow};
 
-use crate::place::Place;
+use traces::Place;
 
 /// A revision that a log lists, and the place below it from which the log goes on.
 #[derive(Debug, Drop)]

@@ -1,13 +1,13 @@
 //! A walk along the trace of a place.
 ghost use Rattle.std.specs.Prelude.{◌≡◌, ◌≤◌, ◌∷◌, ℕ, Bool, IfOk};
 ghost use Rattle.repo_api.specs.Histories.{History, history_of};
-ghost use Rattle.history.specs.{Traces.{trace_below, trace, traced, IsBelow}, Logs.{IsNext, listed}};
+ghost use Rattle.traces.specs.Traces.{trace_below, trace, traced, IsBelow};
+ghost use Rattle.history.specs.Logs.{IsNext, listed};
 
-use crate::changes::{is_touched, next_place};
 use crate::listed::Listed;
-use crate::place::Place;
 use repo_api::Repository;
 use std::alloc::{AllocError, Global};
+use traces::{Place, is_touched, next_place};
 
 /// Gives the place, if it is below the revision.
 fn only_below(place: Option<Place>, revision: u64) -> Option<Place>

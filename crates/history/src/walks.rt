@@ -1,17 +1,18 @@
 //! Walks along several traces at once.
 ghost use Rattle.std.specs.Prelude.{◌≡◌, ◌≤◌, suc, max, map, filter, IfOk, OnErr, Some, []};
 ghost use Rattle.repo_api.specs.Histories.{history_of};
-ghost use Rattle.history.specs.Logs.{IsNext, is_of_log, log_places, newest_asked, oldest_asked, place_at, revisions_down};
+ghost use Rattle.history.specs.Logs.{AreSameNamed, IsNext, is_of_log, log_places, newest_asked, oldest_asked, place_at, revisions_down};
 ghost use Rattle.history.specs.Walks.{one_above, above_head, above_heads, of_walks, next_then, IsPast, ArePast, AreFirst};
 
 use crate::listed::Listed;
 use crate::log_ask::LogAsk;
-use crate::place::Place;
 use crate::walk::next_listed;
 use repo_api::Repository;
 use std::alloc::{AllocError, Global};
+use std::collections::BTreeSet;
 use std::{mem, slice};
 use svnpath::Path;
+use traces::Place;
 
 /// A walk along each trace of a log, with what it has found and from where it goes on.
 #[derive(Debug, Drop)]
@@ -56,7 +57,8 @@ impl Walks {
             IfOk result (λ walks. of_walks h walks ≡ filter (is_of_log h ask paths.now)
             (revisions_down (oldest_asked ask) (suc (newest_asked ask)))) }
     {
-        let heads = all_heads(alloc, repository, paths, ask)?;
+        let named = each_named(alloc, paths)?;
+        let heads = all_heads(alloc, repository, &named, ask)?;
         Ok(Walks {
             strict: ask.strict,
             low: ask.start.min(ask.end),
@@ -140,6 +142,20 @@ impl Walks {
             }
         }
     }
+}
+
+/// Gives each of the paths once.
+fn each_named(alloc: Global, paths: &[Path]) -> Result<Vec<Path>, AllocError>
+    ensures { IfOk result (λ named. AreSameNamed named.items paths.now) }
+{
+    let mut seen = BTreeSet::new(alloc);
+    let mut named = Vec::new(alloc);
+    for path in paths {
+        if seen.insert(path.clone()?)? {
+            named.push(path.clone()?)?;
+        }
+    }
+    Ok(named)
 }
 
 /// Finds what the walks of a log find first: those of the paths, or that of the root.

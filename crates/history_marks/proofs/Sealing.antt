@@ -10,7 +10,7 @@ use Rattle.repo_api.specs.{declared.entry.Mark.TheVariants.{Open, Made}, declare
 use Rattle.repo_api.specs.{declared.change.Action.TheVariants.{Add, Delete, Replace, Modify}, declared.change.Change.Change}
 use Rattle.repo_laws.proofs.Naming.{same_mark_refl}
 use Rattle.repo_laws.proofs.Merged.{apart, merged_if, to_txn, to_youngest, here, untouched_refl, joined_left, joined_own, sealed_last_open}
-use Rattle.history.specs.Traces.{makes}
+use Rattle.traces.specs.Traces.{makes}
 use Rattle.history_marks.specs.{Quiet.own_revision, Transactions.{has_made, IsMade, IsMadeAbove, is_left_by, is_add, HasMarksOf, TellsChanges}}
 use Rattle.history_marks.proofs.Above.{false_apart}
 

@@ -9,7 +9,7 @@ use Rattle.repo_api.specs.{Marks.has_open_own, Merge.has_open_last, Trees.Tree, 
 use Rattle.repo_api.specs.{declared.change.Action.Action, declared.change.Action.TheVariants.{Add, Delete, Replace, Modify}, declared.change.Change.Change}
 use Rattle.repo_api.specs.declared.change.Source.{Source}
 use Rattle.repo_laws.proofs.{Edited.renewed, Under.{not_true, under_through}}
-use Rattle.history.specs.Traces.{makes}
+use Rattle.traces.specs.Traces.{makes}
 use Rattle.history_marks.specs.Transactions.{IsBeneath, has_made, IsMade, IsMadeAbove, is_left_by, is_add, HasMarksOf, TellsChanges}
 use Rattle.history_marks.proofs.Above.{not_over, apart_false, false_apart}
 

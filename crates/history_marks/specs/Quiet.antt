@@ -2,7 +2,7 @@
 use Rattle.std.specs.Prelude.{◌≡◌, ◌≤◌, ℕ, suc, true, List, Option, Some, None, IsSome, Contains, ◌⊎◌}
 use Rattle.svnpath.specs.Paths.{is_at_or_under, PathValue}
 use Rattle.repo_api.specs.{Histories.{Changed, History, IsQuietSince}, Kinds.created_of, Trees.{revision_of, Tree}, declared.entry.Entry.Entry}
-use Rattle.history.specs.Traces.{makes}
+use Rattle.traces.specs.Traces.{makes}
 
 -- the revision that last changed the entry itself
 abbrev pub own_revision : Option Entry → Option ℕ

@@ -4,7 +4,7 @@ use Rattle.svnpath.specs.Paths.{is_at_or_under, PathValue}
 use Rattle.repo_api.specs.{Changes.Changes, Marks.{has_open_own, last_of, own_of}, Merge.has_open_last, States.{changes_of, tree_of, trees_in, TxnState}}
 use Rattle.repo_api.specs.{Trees.Tree, declared.change.Action.Action, declared.change.Action.TheVariants.{Add, Delete, Replace, Modify}}
 use Rattle.repo_api.specs.{declared.change.Change.Change, declared.entry.Entry.Entry}
-use Rattle.history.specs.Traces.{makes}
+use Rattle.traces.specs.Traces.{makes}
 
 -- under the other path, and not that path itself
 abbrev pub IsBeneath : PathValue → PathValue → Type 0

@@ -2,9 +2,9 @@
 #![tactic(auto)]
 
 #[cfg(test)]
-mod locks;
+mod hubs;
 #[cfg(test)]
-mod revisions;
+mod locks;
 #[cfg(test)]
 mod stdio;
 #[cfg(test)]

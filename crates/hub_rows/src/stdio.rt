@@ -1,20 +1,18 @@
 //! The loop over a reader and a writer, byte by byte and where a stream fails.
 ghost use Rattle.std.specs.Prelude.{◌≡◌};
 
-use access::SoleRepository;
+use crate::hubs::{ENV, GREETING, are, new_hub, options_of_r};
+use access::SoleAccess;
 use conversations::{Env, EnvSource};
 use flatrepo::FlatRepo;
-use hub::{Hub, Options};
+use hub::Hub;
 use in_memory::InMemory;
 use std::alloc::Global;
 use std::io;
 use std::io::{ErrorKind, Read, Write};
-use std::test::Fail;
+use std::process::Abort;
 use streams::{ServeFault, run_stdio};
 use world::World;
-
-/// The UUID of the repository.
-const UUID: u128 = 0x0000_0000_0000_4000_8000_0000_0000_0000;
 
 const INPUT: &[u8] =
     b"( 2 ( edit-pipeline ) 15:svn://h/r/trunk ) ( ANONYMOUS ( 0: ) ) ( get-latest-rev ( ) ) \
@@ -47,10 +45,6 @@ const ANSWERS: &[u8] =
       ( success ( ( ANONYMOUS ) 1:r ) ) ( success ( ) ) \
       ( success ( 36:00000000-0000-4000-8000-000000000000 9:svn://h/r ( ) ) ) ";
 
-/// What a client is greeted with.
-const GREETING: &[u8] =
-    b"( success ( 2 2 ( ) ( edit-pipeline absent-entries commit-revprops depth atomic-revprops ) ) ) ";
-
 /// A clock that stands still.
 #[derive(Drop)]
 struct Still;
@@ -59,11 +53,7 @@ impl EnvSource for Still {
     ghost gives = { λ _ env _. (env.moment ≡ 0) × (env.token ≡ 0) × (env.nonce ≡ 0) };
 
     fn next_env(&mut self) -> Env {
-        Env {
-            moment: 0,
-            token: 0,
-            nonce: 0,
-        }
+        ENV
     }
 }
 
@@ -127,105 +117,125 @@ fn drip(bytes: &'static [u8], fails: bool) -> Dripping {
     }
 }
 
-/// Makes a hub of the repository `r`, where clients may change the properties of revisions or not.
-fn hub_of_r<R: InMemory>(alloc: Global, revprops: bool) -> Result<Hub<SoleRepository<R>>, Fail> {
-    let repository = R::empty(alloc, UUID, 0)?;
-    let options = Options::new(alloc, "r")?;
-    let options = if revprops {
-        options.with_revprops()
-    } else {
-        options
-    };
-    Ok(Hub::over_new(alloc, repository, options)?)
+/// How a run ends.
+#[derive(Clone, Copy, PartialEq, Eq)]
+enum Ending {
+    Well,
+    ByReader,
+    ByWriter,
+    ByHub,
 }
 
-/// Gives what is written for these bytes, where clients may change the properties of revisions or not.
-fn written<R: InMemory>(
-    alloc: Global,
-    bytes: &'static [u8],
+/// Says how a run has ended.
+fn ending_of(ended: Result<(), ServeFault>) -> Ending {
+    match ended {
+        Ok(()) => Ending::Well,
+        Err(ServeFault::Read(_)) => Ending::ByReader,
+        Err(ServeFault::Write(_)) => Ending::ByWriter,
+        Err(ServeFault::Hub(_)) => Ending::ByHub,
+    }
+}
+
+/// A client: what it sends, whether the reader fails then, whether clients may change the properties of revisions, and
+/// what is written.
+struct Row {
+    sent: &'static [u8],
+    fails: bool,
     revprops: bool,
-) -> Result<Vec<u8>, Fail> {
-    let mut hub: Hub<SoleRepository<R>> = hub_of_r(alloc, revprops)?;
+    written: [&'static [u8]; 2],
+}
+
+static ROWS: [Row; 5] = [
+    // a conversation, byte by byte
+    Row {
+        sent: INPUT,
+        fails: false,
+        revprops: false,
+        written: [OUTPUT, b""],
+    },
+    // a client is greeted before the first read
+    Row {
+        sent: b"",
+        fails: true,
+        revprops: false,
+        written: [GREETING, b""],
+    },
+    // what was read is answered before the reader fails
+    Row {
+        sent: BEGINNING,
+        fails: true,
+        revprops: false,
+        written: [ANSWERS, b""],
+    },
+    // clients may change properties of revisions where that is asked for
+    Row {
+        sent: CHANGE,
+        fails: false,
+        revprops: false,
+        written: [ANSWERS, CLOSED],
+    },
+    Row {
+        sent: CHANGE,
+        fails: false,
+        revprops: true,
+        written: [ANSWERS, CHANGED],
+    },
+];
+
+/// Says whether a client is served as its row says.
+fn is_served<A: SoleAccess + Drop>(alloc: Global, hub: Hub<A>, row: &Row) -> bool {
+    let mut hub = hub;
     let mut output = Vec::new(alloc);
-    run_stdio(&mut hub, &mut drip(bytes, false), &mut output, &mut Still)?;
-    Ok(output)
+    let mut input = drip(row.sent, row.fails);
+    let ending = ending_of(run_stdio(&mut hub, &mut input, &mut output, &mut Still));
+    let wanted = if row.fails {
+        Ending::ByReader
+    } else {
+        Ending::Well
+    };
+    ending == wanted && are(output.as_slice(), &row.written)
 }
 
-/// Says whether the conversation is answered byte by byte.
-fn is_answered<R: InMemory>(alloc: Global) -> Result<bool, Fail> {
-    let output = written::<R>(alloc, INPUT, false)?;
-    Ok(output.as_slice() == OUTPUT)
-}
-
-#[test]
-fn answers_byte_by_byte(rt: HostRuntime) -> Result<(), Fail> {
-    let alloc = rt.alloc();
-    assert!(rt; is_answered::<World>(alloc)? && is_answered::<FlatRepo>(alloc)?);
-    Ok(())
-}
-
-/// Says whether this is what is written where the reader fails after these bytes, and that failure is answered.
-fn is_written_before<R: InMemory>(
-    alloc: Global,
-    bytes: &'static [u8],
-    wanted: &[u8],
-) -> Result<bool, Fail> {
-    let mut hub: Hub<SoleRepository<R>> = hub_of_r(alloc, false)?;
-    let mut output = Vec::new(alloc);
-    let ended = run_stdio(&mut hub, &mut drip(bytes, true), &mut output, &mut Still);
-    Ok(matches!(ended, Err(ServeFault::Read(_))) && output.as_slice() == wanted)
+/// Says whether each client is served as its row says.
+fn are_served<R: InMemory>(rt: &impl Abort, alloc: Global) -> bool {
+    let mut are_served = true;
+    for row in ROWS.iter() {
+        let mut options = options_of_r(rt, alloc);
+        if row.revprops {
+            options = options.with_revprops();
+        }
+        are_served &= is_served(alloc, new_hub::<R>(rt, alloc, options), row);
+    }
+    are_served
 }
 
 #[test]
-fn greets_before_the_first_read(rt: HostRuntime) -> Result<(), Fail> {
-    let alloc = rt.alloc();
-    let shared = is_written_before::<World>(alloc, b"", GREETING)?;
-    let flat = is_written_before::<FlatRepo>(alloc, b"", GREETING)?;
-    assert!(rt; shared && flat);
-    Ok(())
+fn serves_over_streams(rt: HostRuntime) {
+    assert!(rt; are_served::<World>(&rt, rt.alloc()));
 }
 
 #[test]
-fn answers_what_was_read_before_the_reader_fails(rt: HostRuntime) -> Result<(), Fail> {
-    let alloc = rt.alloc();
-    let shared = is_written_before::<World>(alloc, BEGINNING, ANSWERS)?;
-    let flat = is_written_before::<FlatRepo>(alloc, BEGINNING, ANSWERS)?;
-    assert!(rt; shared && flat);
-    Ok(())
+fn serves_over_streams_in_flat(rt: HostRuntime) {
+    assert!(rt; are_served::<FlatRepo>(&rt, rt.alloc()));
 }
 
-/// Says whether the loop ends where the writer fails.
-fn stops_at_the_writer<R: InMemory>(alloc: Global) -> Result<bool, Fail> {
-    let mut hub: Hub<SoleRepository<R>> = hub_of_r(alloc, false)?;
+/// Says how the loop ends where the writer fails.
+fn ending_at_the_writer<A: SoleAccess + Drop>(hub: Hub<A>) -> Ending {
+    let mut hub = hub;
     let mut output = Closing { is_greeted: false };
-    let ended = run_stdio(&mut hub, &mut drip(INPUT, false), &mut output, &mut Still);
-    Ok(matches!(ended, Err(ServeFault::Write(_))))
+    ending_of(run_stdio(&mut hub, &mut drip(INPUT, false), &mut output, &mut Still))
+}
+
+/// Says whether it ends there.
+fn stops_at_the_writer<R: InMemory>(rt: &impl Abort, alloc: Global) -> bool {
+    let hub = new_hub::<R>(rt, alloc, options_of_r(rt, alloc));
+    ending_at_the_writer(hub) == Ending::ByWriter
 }
 
 #[test]
-fn stops_where_the_writer_fails(rt: HostRuntime) -> Result<(), Fail> {
-    let alloc = rt.alloc();
-    assert!(rt; stops_at_the_writer::<World>(alloc)? && stops_at_the_writer::<FlatRepo>(alloc)?);
-    Ok(())
-}
-
-/// Says whether the change draws this behind the login, where clients may change the properties of revisions or not.
-fn is_drawn<R: InMemory>(alloc: Global, revprops: bool, wanted: &[u8]) -> Result<bool, Fail> {
-    let output = written::<R>(alloc, CHANGE, revprops)?;
-    let rest = output.as_slice().get(ANSWERS.len()..).unwrap_or(&[]);
-    Ok(output.as_slice().starts_with(ANSWERS) && rest == wanted)
-}
-
-/// Says whether a change of a property of a revision is made where clients may do that, and refused where they may not.
-fn is_let_where_asked_to<R: InMemory>(alloc: Global) -> Result<bool, Fail> {
-    Ok(is_drawn::<R>(alloc, false, CLOSED)? && is_drawn::<R>(alloc, true, CHANGED)?)
-}
-
-#[test]
-fn lets_clients_change_properties_of_revisions_where_asked_to(rt: HostRuntime) -> Result<(), Fail> {
+fn stops_where_the_writer_fails(rt: HostRuntime) {
     let alloc = rt.alloc();
     assert!(rt;
-        is_let_where_asked_to::<World>(alloc)? && is_let_where_asked_to::<FlatRepo>(alloc)?
+        stops_at_the_writer::<World>(&rt, alloc) && stops_at_the_writer::<FlatRepo>(&rt, alloc)
     );
-    Ok(())
 }

@@ -5,7 +5,8 @@ use Rattle.svnpath.specs.{Listings.listing, Paths.PathValue, Texts.joined, decla
 use Rattle.refusals.specs.{declared.Refusal.Refusal, Refusing.path_refusal}
 use Rattle.refusals.specs.declared.Refusal.TheVariants as refusals
 use Rattle.repo_api.specs.{Histories.{Changed, history_of}, Kinds.{is_present, kind_at}, States.{RepoState, youngest}}
-use Rattle.history.specs.{Locations.{kind_shown, locations}, Logs.{log, newest_asked, place_at}, declared.log_ask.LogAsk.LogAsk, declared.place.Place.Place}
+use Rattle.traces.specs.declared.place.Place.{Place}
+use Rattle.history.specs.{Locations.{kind_shown, locations}, Logs.{log, newest_asked, place_at}, declared.log_ask.LogAsk.LogAsk}
 use Rattle.commands.specs.{declared.command.GetLocationsCommand.GetLocationsCommand, declared.command.LogCommand.LogCommand}
 use Rattle.wire_replies.specs.{Replies.logged_change, declared.histories.LoggedChange.LoggedChange, declared.reply.Reply.Reply}
 use Rattle.wire_replies.specs.declared.reply.Reply.TheVariants as replies

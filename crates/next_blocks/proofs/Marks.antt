@@ -9,7 +9,7 @@ use Rattle.repo_api.specs.{Histories.Changed, Kinds.created_of, Marks.{has_open_
 use Rattle.repo_api.specs.{Merge.has_open_last, Properties.PropertyList, Trees.Tree, declared.entry.Content.Content, declared.change.Change.Change}
 use Rattle.repo_api.specs.{declared.entry.Entry.Entry, declared.entry.Mark.Mark, declared.entry.Mark.TheVariants.{Made, Open}}
 use Rattle.repo_laws.proofs.Under.{under_through}
-use Rattle.history.specs.Traces.{makes}
+use Rattle.traces.specs.Traces.{makes}
 use Rattle.history_marks.specs.{Transactions.has_made, Quiet.{IsNotMade, own_revision}}
 use Rattle.noderevs.specs.{Nodes.{IsThere, Look}, Views.{shared_entry, shared_tree}, declared.node_rev.Block.Block, declared.node_rev.NodeId.NodeId}
 use Rattle.noderevs.specs.declared.node_rev.NodeRev.{NodeRev}

@@ -7,10 +7,11 @@ use filed_opening::{create, open};
 use folder_hub::{FolderHub, hub_over, store_of};
 use hub::{Call, Hub, Options, SessionId, make_call};
 use in_memory::InMemory;
-use script_lines::{Failing, LineFault, NamedFile, NewHub, answer_line};
+use script_lines::{Failing, LineFault, NamedFile, NewFormat, NewHub, answer_line};
 use std::alloc::{AllocError, Global};
 use std::fs;
 use std::io::ErrorKind;
+use std::mem::drop;
 use store_files::{FuseStore, MemoryStore, Store, StoreFault};
 use store_folder::FolderStore;
 
@@ -21,7 +22,6 @@ type DiskStore = FolderStore<HostRuntime>;
 pub type FailingHub<S> = FolderHub<FuseStore<S>>;
 
 /// A hub of a script.
-#[derive(Drop)]
 pub enum PlayedHub<R: InMemory> {
     /// Its repository has no files.
     Plain(MemoryHub<R>),
@@ -29,6 +29,16 @@ pub enum PlayedHub<R: InMemory> {
     Memory(FailingHub<MemoryStore>),
     /// Its files are in this folder.
     Folder(FailingHub<DiskStore>, String),
+}
+
+impl<R: InMemory> Drop for PlayedHub<R> {
+    fn drop(self) {
+        match self {
+            PlayedHub::Plain(_) => {}
+            PlayedHub::Memory(_) => {}
+            PlayedHub::Folder(_, _) => {}
+        }
+    }
 }
 
 /// Makes a call, and gives the line that it is answered by.
@@ -83,17 +93,29 @@ fn open_folder(
 pub fn new_memory_hub(
     alloc: Global,
     asked: NewHub,
+    format: NewFormat,
     failing: Failing,
 ) -> Result<FailingHub<MemoryStore>, LineFault> {
     let mut store = MemoryStore::new(alloc);
-    create(alloc, &mut store, asked.uuid, asked.moment)?;
+    create(alloc, &mut store, asked.uuid, asked.moment, format.number())?;
     open_memory(alloc, store, asked.options, failing)
 }
 
 /// Makes a repository in a folder, where there is none.
-fn create_in_folder(rt: &HostRuntime, folder: &str, asked: &NewHub) -> Result<(), LineFault> {
+fn create_in_folder(
+    rt: &HostRuntime,
+    folder: &str,
+    asked: &NewHub,
+    format: NewFormat,
+) -> Result<(), LineFault> {
     let mut store: DiskStore = FolderStore::make(*rt, files_folder(rt.alloc(), folder)?)?;
-    match create(rt.alloc(), &mut store, asked.uuid, asked.moment) {
+    match create(
+        rt.alloc(),
+        &mut store,
+        asked.uuid,
+        asked.moment,
+        format.number(),
+    ) {
         Ok(()) | Err(StoreFault::Exists) => Ok(()),
         Err(fault) => Err(LineFault::Store(fault)),
     }
@@ -104,10 +126,16 @@ pub fn new_folder_hub(
     rt: &HostRuntime,
     folder: &str,
     asked: NewHub,
+    format: NewFormat,
     failing: Failing,
 ) -> Result<FailingHub<DiskStore>, LineFault> {
-    create_in_folder(rt, folder, &asked)?;
-    open_folder(rt, folder, asked.options, failing)
+    match create_in_folder(rt, folder, &asked, format) {
+        Ok(()) => open_folder(rt, folder, asked.options, failing),
+        Err(fault) => {
+            drop(asked);
+            Err(fault)
+        }
+    }
 }
 
 /// Lets go of a hub: its store and its options.
@@ -119,7 +147,7 @@ fn into_store<S: Store>(hub: FailingHub<S>) -> (S, Options) {
 /// Lets go of a hub and its store: its options.
 fn into_options<S: Store>(hub: FailingHub<S>) -> Options {
     let (store, options) = into_store(hub);
-    std::mem::drop(store);
+    drop(store);
     options
 }
 
@@ -175,15 +203,36 @@ impl<R: InMemory> PlayedHub<R> {
     /// Makes a hub over its repository, which is opened again from its files.
     pub fn reopened(self, rt: &HostRuntime, failing: Failing) -> Result<Self, LineFault> {
         match self {
-            PlayedHub::Plain(_) => Err(LineFault::NoFiles),
+            PlayedHub::Plain(hub) => {
+                drop(hub);
+                Err(LineFault::NoFiles)
+            }
             PlayedHub::Memory(hub) => {
                 let (store, options) = into_store(hub);
-                Ok(PlayedHub::Memory(open_memory(rt.alloc(), store, options, failing)?))
+                match open_memory(rt.alloc(), store, options, failing) {
+                    Ok(hub) => Ok(PlayedHub::Memory(hub)),
+                    Err(fault) => Err(fault),
+                }
             }
             PlayedHub::Folder(hub, folder) => {
                 let options = into_options(hub);
-                let hub = open_folder(rt, &folder, options, failing)?;
-                Ok(PlayedHub::Folder(hub, folder))
+                PlayedHub::in_folder(rt, folder, options, failing)
+            }
+        }
+    }
+
+    /// Makes a hub over the repository in a folder.
+    fn in_folder(
+        rt: &HostRuntime,
+        folder: String,
+        options: Options,
+        failing: Failing,
+    ) -> Result<Self, LineFault> {
+        match open_folder(rt, &folder, options, failing) {
+            Ok(hub) => Ok(PlayedHub::Folder(hub, folder)),
+            Err(fault) => {
+                drop(folder);
+                Err(fault)
             }
         }
     }

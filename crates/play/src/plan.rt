@@ -8,8 +8,9 @@ use access::SoleRepository;
 use cram::Users;
 use hub::Hub;
 use in_memory::InMemory;
-use script_lines::{Failing, LineFault, NewHub, NewUser, Place};
+use script_lines::{Failing, LineFault, NewFormat, NewHub, NewUser, Place};
 use std::alloc::{AllocError, Global};
+use std::mem::drop;
 
 /// A hub over a repository in memory.
 pub type MemoryHub<R> = Hub<SoleRepository<R>>;
@@ -19,21 +20,115 @@ fn make_hub<R: InMemory>(alloc: Global, asked: NewHub) -> Result<MemoryHub<R>, L
     ensures { IfOk result (λ hub. (date : List ℕ) × IsDateText asked.moment date
         × (hub ≡ new_hub asked.options asked.uuid date)) }
 {
-    let repository = R::empty(alloc, asked.uuid, asked.moment)?;
-    match Hub::over_new(alloc, repository, asked.options) {
-        Ok(hub) => Ok(hub),
-        Err(_) => Err(LineFault::NoMemory),
+    match R::empty(alloc, asked.uuid, asked.moment) {
+        Ok(repository) => match Hub::over_new(alloc, repository, asked.options) {
+            Ok(hub) => Ok(hub),
+            Err(_) => Err(LineFault::NoMemory),
+        },
+        Err(error) => {
+            drop(asked);
+            Err(LineFault::from(error))
+        }
+    }
+}
+
+/// Makes a hub whose repository is in files in memory.
+fn hub_in_memory<R: InMemory>(
+    alloc: Global,
+    asked: NewHub,
+    format: NewFormat,
+    failing: Failing,
+) -> Result<PlayedHub<R>, LineFault> {
+    match new_memory_hub(alloc, asked, format, failing) {
+        Ok(hub) => Ok(PlayedHub::Memory(hub)),
+        Err(fault) => Err(fault),
+    }
+}
+
+/// Makes a hub whose repository is in the files of a folder.
+fn hub_in_folder<R: InMemory>(
+    rt: &HostRuntime,
+    asked: NewHub,
+    folder: String,
+    format: NewFormat,
+    failing: Failing,
+) -> Result<PlayedHub<R>, LineFault> {
+    match new_folder_hub(rt, &folder, asked, format, failing) {
+        Ok(hub) => Ok(PlayedHub::Folder(hub, folder)),
+        Err(fault) => {
+            drop(folder);
+            Err(fault)
+        }
+    }
+}
+
+/// Makes a hub whose repository is at a place.
+fn hub_at<R: InMemory>(
+    rt: &HostRuntime,
+    asked: NewHub,
+    place: Place,
+    format: NewFormat,
+    failing: Failing,
+) -> Result<PlayedHub<R>, LineFault> {
+    match place {
+        Place::Plain => match make_hub(rt.alloc(), asked) {
+            Ok(hub) => Ok(PlayedHub::Plain(hub)),
+            Err(fault) => Err(fault),
+        },
+        Place::Memory => hub_in_memory(rt.alloc(), asked, format, failing),
+        Place::Folder(folder) => hub_in_folder(rt, asked, folder, format, failing),
     }
 }
 
 /// A hub that is asked for, the bytes of its users file, if it has one, whether its clients may change
-/// the properties of revisions, and where its repository is.
-#[derive(Drop)]
+/// the properties of revisions, where its repository is, and which format that is of, where it is new.
 pub struct Plan {
     hub: NewHub,
     users: Option<Vec<u8>>,
     revprops: bool,
     place: Place,
+    format: NewFormat,
+}
+
+impl Drop for Plan {
+    fn drop(self) {
+        let Plan {
+            hub: _,
+            users: _,
+            revprops: _,
+            place: _,
+            format: _,
+        } = self;
+    }
+}
+
+/// Gives the hub that is asked for the users of a file, if there is one.
+fn with_users(alloc: Global, hub: NewHub, users: Option<Vec<u8>>) -> Result<NewHub, LineFault> {
+    let Some(bytes) = users else {
+        return Ok(hub);
+    };
+    let read = Users::read(alloc, &bytes);
+    drop(bytes);
+    match read {
+        Ok(users) => {
+            let mut hub = hub;
+            hub.options = hub.options.with_users(users);
+            Ok(hub)
+        }
+        Err(fault) => {
+            drop(hub);
+            Err(LineFault::from(fault))
+        }
+    }
+}
+
+/// Lets the clients of the hub that is asked for change the properties of revisions, if they may.
+fn with_revprops(hub: NewHub, revprops: bool) -> NewHub {
+    let mut hub = hub;
+    if revprops {
+        hub.options = hub.options.with_revprops();
+    }
+    hub
 }
 
 impl Plan {
@@ -45,6 +140,7 @@ impl Plan {
             users: None,
             revprops: false,
             place: Place::Plain,
+            format: NewFormat::Three,
         }
     }
 
@@ -56,6 +152,11 @@ impl Plan {
     /// Has its repository at another place.
     pub fn put(&mut self, place: Place) {
         self.place = place;
+    }
+
+    /// Has its repository of this format, where it is new.
+    pub fn set_format(&mut self, format: NewFormat) {
+        self.format = format;
     }
 
     /// Begins a users file without users, in place of the one before.
@@ -78,22 +179,22 @@ impl Plan {
         Ok(())
     }
 
-    /// Gives the hub that is to be made, with all its options, and where its repository is.
-    fn settled(self, alloc: Global) -> Result<(NewHub, Place), LineFault> {
+    /// Gives the hub that is to be made, with all its options, where its repository is, and of which format.
+    fn settled(self, alloc: Global) -> Result<(NewHub, Place, NewFormat), LineFault> {
         let Plan {
-            mut hub,
+            hub,
             users,
             revprops,
             place,
+            format,
         } = self;
-        if let Some(users) = users {
-            let users = Users::read(alloc, &users)?;
-            hub.options = hub.options.with_users(users);
+        match with_users(alloc, hub, users) {
+            Ok(hub) => Ok((with_revprops(hub, revprops), place, format)),
+            Err(fault) => {
+                drop(place);
+                Err(fault)
+            }
         }
-        if revprops {
-            hub.options = hub.options.with_revprops();
-        }
-        Ok((hub, place))
     }
 
     /// Makes the hub. Its store, if it has one, fails so.
@@ -102,14 +203,9 @@ impl Plan {
         rt: &HostRuntime,
         failing: Failing,
     ) -> Result<PlayedHub<R>, LineFault> {
-        let (hub, place) = self.settled(rt.alloc())?;
-        match place {
-            Place::Plain => Ok(PlayedHub::Plain(make_hub(rt.alloc(), hub)?)),
-            Place::Memory => Ok(PlayedHub::Memory(new_memory_hub(rt.alloc(), hub, failing)?)),
-            Place::Folder(folder) => {
-                let hub = new_folder_hub(rt, &folder, hub, failing)?;
-                Ok(PlayedHub::Folder(hub, folder))
-            }
+        match self.settled(rt.alloc()) {
+            Ok((hub, place, format)) => hub_at(rt, hub, place, format, failing),
+            Err(fault) => Err(fault),
         }
     }
 }

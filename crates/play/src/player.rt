@@ -4,8 +4,11 @@ use crate::hubs::PlayedHub;
 use crate::plan::Plan;
 use hub::{Call, SessionId};
 use in_memory::InMemory;
-use script_lines::{Failing, Line, LineFault, NamedFile, Piece, file_line, reopening_line};
-use std::mem;
+use script_lines::{
+    Failing, Line, LineFault, NamedFile, NewFormat, NewHub, NewUser, Piece, Place, file_line,
+    reopening_line,
+};
+use std::mem::{self, drop};
 use store_files::Left;
 
 /// A store that passes all calls on.
@@ -15,7 +18,6 @@ const NEVER: Failing = Failing {
 };
 
 /// What a script has come to.
-#[derive(Drop)]
 enum Stage<R: InMemory> {
     /// No hub is asked for yet.
     Beginning,
@@ -23,6 +25,27 @@ enum Stage<R: InMemory> {
     Asked(Plan),
     /// Calls are made to a hub.
     Calling(PlayedHub<R>),
+}
+
+impl<R: InMemory> Drop for Stage<R> {
+    fn drop(self) {
+        match self {
+            Stage::Beginning => {}
+            Stage::Asked(_) => {}
+            Stage::Calling(_) => {}
+        }
+    }
+}
+
+impl<R: InMemory> Stage<R> {
+    /// Makes the hub that is asked for, or a hub over the repository of the one that there is, opened again.
+    fn into_hub(self, rt: &HostRuntime, failing: Failing) -> Result<PlayedHub<R>, LineFault> {
+        match self {
+            Stage::Beginning => Err(LineFault::NoHub),
+            Stage::Asked(plan) => plan.into_hub(rt, failing),
+            Stage::Calling(hub) => hub.reopened(rt, failing),
+        }
+    }
 }
 
 /// Plays lines, one after another. `R` is what the hubs' repositories without files are.
@@ -49,28 +72,14 @@ impl<R: InMemory> Player<R> {
         match line {
             Line::Comment => Ok(None),
             Line::Hub(asked) => {
-                self.stage = Stage::Asked(Plan::new(asked));
-                self.failing = NEVER;
+                self.ask(asked);
                 Ok(None)
             }
-            Line::Revprops => {
-                self.plan()?.open_revprops();
-                Ok(None)
-            }
-            Line::Users => {
-                let alloc = self.rt.alloc();
-                self.plan()?.begin_users(alloc)?;
-                Ok(None)
-            }
-            Line::User(user) => {
-                let alloc = self.rt.alloc();
-                self.plan()?.add_user(alloc, &user)?;
-                Ok(None)
-            }
-            Line::Place(place) => {
-                self.plan()?.put(place);
-                Ok(None)
-            }
+            Line::Revprops => self.open_revprops(),
+            Line::Users => self.begin_users(),
+            Line::User(user) => self.add_user(&user),
+            Line::Place(place) => self.put(place),
+            Line::Format(format) => self.set_format(format),
             Line::Fuse(failing) => {
                 self.failing = failing;
                 Ok(None)
@@ -78,17 +87,73 @@ impl<R: InMemory> Player<R> {
             Line::Reopen => self.reopen(),
             Line::File(file) => self.ask_file(&file),
             Line::Connect => self.call(&Call::Connect),
-            Line::Feed(piece) => {
-                let Piece {
-                    session,
-                    bytes,
-                    env,
-                } = piece;
-                self.call(&Call::Feed(session, bytes, env))
-            }
+            Line::Feed(piece) => self.feed(piece),
             Line::Open(session) => self.ask_open(session),
             Line::Disconnect(session) => self.call(&Call::Disconnect(session)),
         }
+    }
+
+    /// Asks for a hub, in place of the one before.
+    fn ask(&mut self, asked: NewHub) {
+        self.stage = Stage::Asked(Plan::new(asked));
+        self.failing = NEVER;
+    }
+
+    /// Lets the clients of the hub that is asked for change the properties of revisions.
+    fn open_revprops(&mut self) -> Result<Option<String>, LineFault> {
+        self.plan()?.open_revprops();
+        Ok(None)
+    }
+
+    /// Has the repository of the hub that is asked for in a format, where it is new.
+    fn set_format(&mut self, format: NewFormat) -> Result<Option<String>, LineFault> {
+        self.plan()?.set_format(format);
+        Ok(None)
+    }
+
+    /// Begins a users file of the hub that is asked for.
+    fn begin_users(&mut self) -> Result<Option<String>, LineFault> {
+        let alloc = self.rt.alloc();
+        self.plan()?.begin_users(alloc)?;
+        Ok(None)
+    }
+
+    /// Adds a user of the hub that is asked for.
+    fn add_user(&mut self, user: &NewUser) -> Result<Option<String>, LineFault> {
+        let alloc = self.rt.alloc();
+        self.plan()?.add_user(alloc, user)?;
+        Ok(None)
+    }
+
+    /// Has the repository of the hub that is asked for at a place.
+    fn put(&mut self, place: Place) -> Result<Option<String>, LineFault> {
+        match self.plan() {
+            Ok(plan) => {
+                plan.put(place);
+                Ok(None)
+            }
+            Err(fault) => {
+                drop(place);
+                Err(fault)
+            }
+        }
+    }
+
+    /// Feeds a session a piece.
+    fn feed(&mut self, piece: Piece) -> Result<Option<String>, LineFault> {
+        let Piece {
+            session,
+            bytes,
+            env,
+        } = piece;
+        self.make(Call::Feed(session, bytes, env))
+    }
+
+    /// Makes a call, and drops it.
+    fn make(&mut self, call: Call) -> Result<Option<String>, LineFault> {
+        let answer = self.call(&call);
+        drop(call);
+        answer
     }
 
     /// Makes a call.
@@ -108,24 +173,21 @@ impl<R: InMemory> Player<R> {
     /// Answers what a file of the repository has.
     fn ask_file(&mut self, file: &NamedFile) -> Result<Option<String>, LineFault> {
         let rt = self.rt;
-        let bytes = self.hub()?.file(&rt, file)?;
-        let line = match &bytes {
-            Some(bytes) => file_line(rt.alloc(), &file.text, Some(bytes.as_slice()))?,
-            None => file_line(rt.alloc(), &file.text, None)?,
-        };
-        Ok(Some(line))
+        match self.hub()?.file(&rt, file)? {
+            Some(bytes) => {
+                let line = file_line(rt.alloc(), &file.text, Some(bytes.as_slice()));
+                drop(bytes);
+                Ok(Some(line?))
+            }
+            None => Ok(Some(file_line(rt.alloc(), &file.text, None)?)),
+        }
     }
 
     /// Drops the hub, and opens its repository again; where the hub wasn't made yet, it is made.
     fn reopen(&mut self) -> Result<Option<String>, LineFault> {
         let alloc = self.rt.alloc();
         let failing = mem::replace(&mut self.failing, NEVER);
-        let opened = match mem::replace(&mut self.stage, Stage::Beginning) {
-            Stage::Beginning => Err(LineFault::NoHub),
-            Stage::Asked(plan) => plan.into_hub(&self.rt, failing),
-            Stage::Calling(hub) => hub.reopened(&self.rt, failing),
-        };
-        match opened {
+        match mem::replace(&mut self.stage, Stage::Beginning).into_hub(&self.rt, failing) {
             Ok(hub) => {
                 self.stage = Stage::Calling(hub);
                 Ok(Some(reopening_line(alloc, None)?))
@@ -155,13 +217,16 @@ impl<R: InMemory> Player<R> {
 
     /// Makes the hub that is asked for, if it isn't made yet.
     fn make_hub(&mut self) -> Result<(), LineFault> {
-        self.stage = match mem::replace(&mut self.stage, Stage::Beginning) {
-            Stage::Asked(plan) => {
-                let failing = mem::replace(&mut self.failing, NEVER);
-                Stage::Calling(plan.into_hub(&self.rt, failing)?)
+        if !matches!(&self.stage, Stage::Asked(_)) {
+            return Ok(());
+        }
+        let failing = mem::replace(&mut self.failing, NEVER);
+        match mem::replace(&mut self.stage, Stage::Beginning).into_hub(&self.rt, failing) {
+            Ok(hub) => {
+                self.stage = Stage::Calling(hub);
+                Ok(())
             }
-            stage => stage,
-        };
-        Ok(())
+            Err(fault) => Err(fault),
+        }
     }
 }

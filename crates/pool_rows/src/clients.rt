@@ -2,21 +2,20 @@
 ghost use Rattle.std.specs.Prelude.{◌≡◌};
 
 use crate::connections::{GREETING, LOGIN, WELCOME};
-use crate::repositories::empty_repository;
+use crate::repositories::{desks_at, empty_repository};
 use filed_world::FiledWorld;
 use machine::Options;
 use published::{Naming, NewHistory};
-use serving::{Server, Settings, desks_of, serve_connections};
+use serving::{Server, Settings, serve_connections};
 use session_pool::MAX_SESSIONS;
 use std::alloc::Global;
-use std::io;
-use std::io::{Eprint, ErrorKind, Read, Write};
+use std::io::{Eprint, Print, Read, Write};
 use std::marker::Brand;
 use std::mem::drop;
 use std::net::{Ipv4Addr, Net, SocketAddr, SocketAddrV4, TcpListener, TcpStream};
+use std::process::Abort;
 use std::random::RandomSource;
 use std::sync::Wait;
-use std::test::Fail;
 use std::thread::{Threads, join};
 use std::time::{Clock, Duration};
 use store_files::MemoryStore;
@@ -84,182 +83,156 @@ const CLOSE: &[u8] = b"( add-dir ( 8:branches 2:d0 2:d1 ( ) ) ) ( close-dir ( 2:
 const SECOND: &[u8] = b"( success ( ) ) ( success ( ( ) 0: ) ) ( 2 ( 27:";
 
 /// Connects a client. It waits for 20 seconds at most.
-fn come<R: Net<Stream = TcpStream>>(rt: &R, address: SocketAddr) -> io::Result<TcpStream> {
-    let stream = TcpStream::connect(rt, address)?;
-    stream.set_read_timeout(Some(Duration::from_secs(20)))?;
-    Ok(stream)
+fn come<R: Abort + Net<Stream = TcpStream>>(rt: &R, address: SocketAddr) -> TcpStream {
+    let stream = TcpStream::connect(rt, address).expect(rt, "a connection");
+    let patience = Some(Duration::from_secs(20));
+    stream.set_read_timeout(patience).expect(rt, "a limit");
+    stream
 }
 
-/// Says whether a client is sent this next.
-fn is_told(stream: &mut TcpStream, words: &[u8]) -> io::Result<bool> {
+/// Sends a client's words.
+fn send(rt: &impl Abort, stream: &mut TcpStream, words: &[u8]) {
+    stream.write_all(words).expect(rt, "a write");
+}
+
+/// Reads what a client is sent next, which is to be this.
+fn hear(rt: &impl Abort, stream: &mut TcpStream, words: &[u8]) {
     let mut told = [0; 256];
     let told = &mut told[..words.len().min(256)];
-    stream.read_exact(told)?;
-    Ok(&*told == words)
+    stream.read_exact(told).expect(rt, "a reply");
+    assert!(rt; &*told == words);
 }
 
-/// Says whether a client is sent this next, a date, and the end of a commit without an author.
-fn is_told_of_commit(stream: &mut TcpStream, words: &[u8]) -> io::Result<bool> {
-    let is_front = is_told(stream, words)?;
-    let mut date = [0; 27];
-    stream.read_exact(&mut date)?;
-    Ok(is_front && is_told(stream, b" ) ( ) ( ) ) ")?)
+/// Reads the same, a date, and the end of a commit without an author.
+fn hear_of_commit(rt: &impl Abort, stream: &mut TcpStream, words: &[u8]) {
+    hear(rt, stream, words);
+    stream.read_exact(&mut [0; 27]).expect(rt, "a date");
+    hear(rt, stream, b" ) ( ) ( ) ) ");
 }
 
-/// Says whether a client commits and reads while another is inside its commit, which is made afterwards.
-fn commit_two<R: Net<Stream = TcpStream>>(rt: &R, address: SocketAddr) -> io::Result<bool> {
-    let mut first = come(rt, address)?;
-    first.write_all(LOGIN)?;
-    first.write_all(OPEN)?;
-    let is_inside = is_told(&mut first, WELCOME)? && is_told(&mut first, OPENED)?;
-    let mut second = come(rt, address)?;
-    second.write_all(LOGIN)?;
-    second.write_all(COMMIT)?;
-    let is_made = is_told(&mut second, WELCOME)? && is_told_of_commit(&mut second, FIRST)?;
-    second.write_all(READ)?;
-    let is_read = is_told(&mut second, WAS_READ)?;
-    first.write_all(CLOSE)?;
-    Ok(is_inside && is_made && is_read && is_told_of_commit(&mut first, SECOND)?)
+/// Has a client commit and read while another is inside its commit, which is made afterwards.
+fn commit_two<R: Abort + Net<Stream = TcpStream>>(rt: &R, address: SocketAddr) {
+    let mut first = come(rt, address);
+    send(rt, &mut first, LOGIN);
+    send(rt, &mut first, OPEN);
+    hear(rt, &mut first, WELCOME);
+    hear(rt, &mut first, OPENED);
+    let mut second = come(rt, address);
+    send(rt, &mut second, LOGIN);
+    send(rt, &mut second, COMMIT);
+    hear(rt, &mut second, WELCOME);
+    hear_of_commit(rt, &mut second, FIRST);
+    send(rt, &mut second, READ);
+    hear(rt, &mut second, WAS_READ);
+    send(rt, &mut first, CLOSE);
+    hear_of_commit(rt, &mut first, SECOND);
 }
 
-/// Says whether so many clients are greeted, the next one is refused and meets the end, and once one of the others has
-/// gone another one is greeted.
-fn fill<R: Net<Stream = TcpStream>>(
+/// Connects a client, which is greeted.
+fn come_greeted<R: Abort + Net<Stream = TcpStream>>(rt: &R, address: SocketAddr) -> TcpStream {
+    let mut stream = come(rt, address);
+    hear(rt, &mut stream, GREETING);
+    stream
+}
+
+/// Connects a client, which is refused and meets the end.
+fn come_refused<R: Abort + Net<Stream = TcpStream>>(rt: &R, address: SocketAddr) {
+    let mut stream = come(rt, address);
+    hear(rt, &mut stream, REFUSAL);
+    assert!(rt; stream.read(&mut [0; 1]).expect(rt, "an end") == 0);
+}
+
+/// Has so many clients come, and one more that is refused; and once one of the others has gone another one.
+fn fill<R: Abort + Net<Stream = TcpStream>>(
     rt: &R,
     alloc: Global,
     address: SocketAddr,
     places: u64,
-) -> io::Result<bool> {
+) {
     let mut open = Vec::new(alloc);
-    let mut are_greeted = true;
     for _ in 0..places {
-        let mut stream = come(rt, address)?;
-        are_greeted &= is_told(&mut stream, GREETING)?;
-        if open.push(stream).is_err() {
-            return Err(io::Error::from(ErrorKind::OutOfMemory));
-        }
+        open.push(come_greeted(rt, address)).expect(rt, "memory");
     }
-    let mut refused = come(rt, address)?;
-    let is_refused = is_told(&mut refused, REFUSAL)? && refused.read(&mut [0; 1])? == 0;
+    come_refused(rt, address);
     drop(open.pop());
-    let mut last = come(rt, address)?;
-    Ok(are_greeted && is_refused && is_told(&mut last, GREETING)?)
+    drop(come_greeted(rt, address));
 }
 
-/// Says whether the clients are sent what they are to be sent. Where they are not, clients that say nothing come, so
-/// that the server ends.
-fn are_told<R: Net<Stream = TcpStream>>(
+/// Has the clients come.
+fn come_all<R: Abort + Net<Stream = TcpStream>>(
     rt: &R,
     alloc: Global,
     address: SocketAddr,
     clients: Clients,
-) -> io::Result<bool> {
-    let told = match clients {
+) {
+    match clients {
         Clients::Commit => commit_two(rt, address),
-        Clients::Fill | Clients::FillAddress => { fill(rt, alloc, address, clients.per_address()) }
-    };
-    if !matches!(told, Ok(true)) {
-        for _ in 0..clients.count() {
-            let _ = TcpStream::connect(rt, address);
-        }
+        Clients::Fill | Clients::FillAddress => fill(rt, alloc, address, clients.per_address()),
     }
-    told
 }
 
 /// Serves these clients on an empty repository, and answers once all have gone.
-fn serve<J, R>(
-    rt: &R,
-    alloc: Global,
-    listener: &TcpListener,
-    clients: Clients,
-    history: NewHistory,
-) -> Result<(), Fail>
+fn serve<J, R>(rt: &R, alloc: Global, listener: &TcpListener, clients: Clients, history: NewHistory)
 where
     J: Naming + Send + Sync + 'static,
-    R: Clock + Eprint + RandomSource + Threads + Wait + Sync,
+    R: Abort + Clock + Eprint + Print + RandomSource + Threads + Wait + Sync,
     requires { history.seen.book ≡ J.book }
 {
     let settings = Settings {
-        options: Options::new(alloc, "r")?,
+        options: Options::new(alloc, "r").expect(rt, "memory"),
         address: SocketAddrV4::new(Ipv4Addr::LOCALHOST, 0),
         per_address: clients.per_address(),
         is_exposed: false,
         is_quiet: true,
     };
-    let stored = empty_repository(alloc)?;
-    let desks = desks_of::<R, FiledWorld, MemoryStore, J>(rt, alloc, stored, history)?;
+    let stored = empty_repository(rt, alloc);
+    let desks = desks_at::<R, FiledWorld, MemoryStore, J>(rt, alloc, stored, history);
     let server = Server {
         rt,
         alloc,
         settings: &settings,
     };
-    serve_connections(&server, listener, clients.count(), desks)?;
-    Ok(())
+    serve_connections(&server, listener, clients.count(), desks).expect(rt, "all threads");
 }
 
-/// Says whether clients are sent what they are to be sent by a server of their own.
-fn serve_clients<J, R>(
-    rt: &R,
-    alloc: Global,
-    clients: Clients,
-    history: NewHistory,
-) -> Result<bool, Fail>
+/// Has clients come to a server of their own. A client that is sent something else ends the process.
+fn serve_clients<J, R>(rt: &R, alloc: Global, clients: Clients, history: NewHistory)
 where
     J: Naming + Send + Sync + 'static,
     R: Net<Listener = TcpListener, Stream = TcpStream>
+        + Abort
         + Clock
         + Eprint
+        + Print
         + RandomSource
         + Threads
         + Wait
         + Sync,
     requires { history.seen.book ≡ J.book }
 {
-    let listener = TcpListener::bind(rt, SocketAddrV4::new(Ipv4Addr::LOCALHOST, 0))?;
-    let address = listener.local_addr()?;
-    let (served, told) = join(
+    let address = SocketAddrV4::new(Ipv4Addr::LOCALHOST, 0);
+    let listener = TcpListener::bind(rt, address).expect(rt, "a listener");
+    let address = listener.local_addr().expect(rt, "an address");
+    join(
         rt,
-        || -> Result<(), Fail>
+        ||
             requires { history.seen.book ≡ J.book }
         { serve::<J, R>(rt, alloc, &listener, clients, history) },
-        || are_told(rt, alloc, address, clients),
+        || come_all(rt, alloc, address, clients),
     );
-    served?;
-    Ok(told?)
 }
 
 #[test]
-fn a_client_commits_while_another_is_inside_its_commit(rt: HostRuntime) -> Result<(), Fail> {
-    let told = serve_clients::<Brand, HostRuntime>(
-        &rt,
-        rt.alloc(),
-        Clients::Commit,
-        NewHistory::new(),
-    )?;
-    assert!(rt; told);
-    Ok(())
+fn a_client_commits_while_another_is_inside_its_commit(rt: HostRuntime) {
+    serve_clients::<Brand, HostRuntime>(&rt, rt.alloc(), Clients::Commit, NewHistory::new());
 }
 
 #[test]
-fn the_seventeenth_is_turned_away(rt: HostRuntime) -> Result<(), Fail> {
-    let told = serve_clients::<Brand, HostRuntime>(
-        &rt,
-        rt.alloc(),
-        Clients::Fill,
-        NewHistory::new(),
-    )?;
-    assert!(rt; told);
-    Ok(())
+fn the_seventeenth_is_turned_away(rt: HostRuntime) {
+    serve_clients::<Brand, HostRuntime>(&rt, rt.alloc(), Clients::Fill, NewHistory::new());
 }
 
 #[test]
-fn the_fourth_of_an_address_is_turned_away(rt: HostRuntime) -> Result<(), Fail> {
-    let told = serve_clients::<Brand, HostRuntime>(
-        &rt,
-        rt.alloc(),
-        Clients::FillAddress,
-        NewHistory::new(),
-    )?;
-    assert!(rt; told);
-    Ok(())
+fn the_fourth_of_an_address_is_turned_away(rt: HostRuntime) {
+    serve_clients::<Brand, HostRuntime>(&rt, rt.alloc(), Clients::FillAddress, NewHistory::new());
 }

@@ -2,12 +2,13 @@
 use conversations::{Env, EnvSource};
 use crossbeam_channel::{Receiver, Sender, unbounded};
 use session_pool::Caller;
-use std::alloc::{AllocError, Global};
+use std::alloc::Global;
 use std::io;
 use std::io::{ErrorKind, Read, Write};
+use std::mem::drop;
+use std::process::Abort;
 use std::sync::atomic::{AtomicBool, Ordering};
 use std::sync::{Mutex, Wait};
-use std::test::Fail;
 
 /// The greeting of a client, and its login without a name.
 pub(crate) const LOGIN: &[u8] = b"( 2 ( edit-pipeline ) 9:svn://h/r ) ( ANONYMOUS ( 0: ) ) ";
@@ -73,20 +74,38 @@ pub(crate) const NEVER: &[u8] = b"never";
 /// What a client has been told, and whether the words that it awaits were among that.
 #[derive(Drop)]
 pub(crate) struct Client {
-    pub(crate) bytes: Mutex<Vec<u8>>,
+    bytes: Mutex<Vec<u8>>,
     awaited: Vec<u8>,
     pub(crate) is_told: AtomicBool,
 }
 
 impl Client {
     /// Makes a client that has been sent nothing.
-    pub(crate) fn new(alloc: Global, awaited: &[u8]) -> Result<Self, AllocError> {
-        Ok(Client {
+    pub(crate) fn new(rt: &impl Abort, alloc: Global, awaited: &[u8]) -> Self {
+        Client {
             bytes: Mutex::new(Vec::new(alloc)),
-            awaited: Vec::from_slice(alloc, awaited)?,
+            awaited: Vec::from_slice(alloc, awaited).expect(rt, "memory"),
             is_told: AtomicBool::new(false),
-        })
+        }
     }
+
+    /// Says whether it has been told this, and nothing else.
+    pub(crate) fn has_heard<R: Wait>(&self, rt: &R, words: &[&[u8]]) -> bool {
+        let told = self.bytes.lock(rt);
+        are(told.as_slice(), words)
+    }
+}
+
+/// Says whether bytes are these, one after another.
+fn are(bytes: &[u8], parts: &[&[u8]]) -> bool {
+    let mut rest = bytes;
+    for part in parts {
+        match rest.strip_prefix(*part) {
+            Some(behind) => rest = behind,
+            None => return false,
+        }
+    }
+    rest.is_empty()
 }
 
 /// The way to a client, which takes so many bytes and fails then.
@@ -128,35 +147,54 @@ fn stands_in(text: &[u8], part: &[u8]) -> bool {
     false
 }
 
-/// Says whether a client is told the welcome, and these words behind it.
-pub(crate) fn is_welcomed(told: &[u8], words: &[u8]) -> bool {
-    told.starts_with(WELCOME) && told.get(WELCOME.len()..).is_some_and(|rest| rest == words)
-}
-
 /// A caller over a connection in memory.
 pub(crate) type MemoryCaller<'a, R> = Caller<Sent<'a, R>, Told<'a, R>>;
 
-/// Sends the caller of this number to the workers: it sends these pieces and then no more, and takes so many bytes.
-pub(crate) fn call<'a, R: Wait>(
+/// What a caller sends, piece by piece and then no more; the client that is told; and how many bytes it takes.
+#[derive(Clone, Copy)]
+pub(crate) struct Call<'a> {
+    pub(crate) pieces: &'a [&'a [u8]],
+    pub(crate) client: &'a Client,
+    pub(crate) room: usize,
+}
+
+/// Makes the caller of this number.
+fn caller_of<'a, R: Abort + Wait>(
     rt: &'a R,
     alloc: Global,
-    callers: &Sender<MemoryCaller<'a, R>>,
-    (number, pieces): (u64, &[&[u8]]),
-    (client, room): (&'a Client, usize),
-) -> Result<(), Fail> {
-    let (say, hear) = unbounded(alloc)?;
-    for piece in pieces {
-        if say.send(rt, Vec::from_slice(alloc, piece)?).is_err() {
-            return Err(Fail::from(io::Error::from(ErrorKind::BrokenPipe)));
-        }
+    number: u64,
+    call: Call<'a>,
+) -> MemoryCaller<'a, R> {
+    let (say, hear) = unbounded(alloc).expect(rt, "memory");
+    for piece in call.pieces {
+        let piece = Vec::from_slice(alloc, piece).expect(rt, "memory");
+        say.send(rt, piece).expect(rt, "a reader");
     }
-    let caller = Caller {
+    drop(say);
+    Caller {
         number,
         input: Sent { rt, pieces: hear },
-        output: Told { rt, client, room },
-    };
-    match callers.send(rt, caller) {
-        Ok(()) => Ok(()),
-        Err(_) => Err(Fail::from(io::Error::from(ErrorKind::BrokenPipe))),
+        output: Told {
+            rt,
+            client: call.client,
+            room: call.room,
+        },
     }
+}
+
+/// Sends callers to the workers, numbered from 1 on, and then no more.
+pub(crate) fn callers<'a, R: Abort + Wait>(
+    rt: &'a R,
+    alloc: Global,
+    calls: &[Call<'a>],
+) -> Receiver<MemoryCaller<'a, R>> {
+    let (to, from) = unbounded(alloc).expect(rt, "memory");
+    let mut number = 0u64;
+    for call in calls {
+        number = number.wrapping_add(1);
+        let caller = caller_of(rt, alloc, number, *call);
+        to.send(rt, caller).expect(rt, "a worker");
+    }
+    drop(to);
+    from
 }

@@ -1,14 +1,11 @@
 //! A connection that fails gives its place back, and the next caller is served.
 
-use crate::connections::{AT_ZERO, Client, GREETING, LOGIN, NEVER, call, is_welcomed};
-use crate::repositories::empty_repository;
+use crate::connections::{AT_ZERO, Call, Client, GREETING, LOGIN, NEVER, WELCOME, callers};
+use crate::repositories::{empty_repository, work_alone};
 use conversations::{OpenGate, Unwatched};
-use crossbeam_channel::unbounded;
 use machine::Options;
 use session_pool::{Admission, MAX_SESSIONS, SessionPool};
-use std::mem::drop;
 use std::sync::Wait;
-use std::test::Fail;
 
 const LATEST: &[u8] = b"( get-latest-rev ( ) ) ";
 
@@ -19,45 +16,45 @@ type OpenPool<'a> = SessionPool<'a, OpenGate, Unwatched>;
 
 /// Says whether the next connections become the sessions of these numbers, and the one behind them finds no place.
 fn is_filled<R: Wait>(rt: &R, pool: &OpenPool<'_>, first: u64, last: u64) -> bool {
+    let mut are_admitted = true;
     for number in first..=last {
-        if pool.admit(rt) != Admission::Session(number) {
-            return false;
-        }
+        are_admitted &= pool.admit(rt) == Admission::Session(number);
     }
-    pool.admit(rt) == Admission::Full
+    are_admitted && pool.admit(rt) == Admission::Full
 }
 
 #[test]
-fn a_client_that_takes_no_byte_leaves_its_place_to_the_next(rt: HostRuntime) -> Result<(), Fail> {
+fn a_client_that_takes_no_byte_leaves_its_place_to_the_next(rt: HostRuntime) {
     let alloc = rt.alloc();
-    let options = Options::new(alloc, "r")?;
+    let options = Options::new(alloc, "r").expect(&rt, "memory");
     let pool = SessionPool::new(&options, &OpenGate, &Unwatched);
     let is_full = is_filled(&rt, &pool, 1, MAX_SESSIONS);
-    let first = Client::new(alloc, NEVER)?;
-    let second = Client::new(alloc, NEVER)?;
-    let (to, from) = unbounded(alloc)?;
-    // no reply behind the greeting is taken
-    call(
+    let (first, second) = (
+        Client::new(&rt, alloc, NEVER),
+        Client::new(&rt, alloc, NEVER),
+    );
+    let calls = [
+        // no reply behind the greeting is taken
+        Call {
+            pieces: &[LOGIN, LATEST],
+            client: &first,
+            room: GREETING.len(),
+        },
+        Call {
+            pieces: &[LOGIN, LATEST],
+            client: &second,
+            room: usize::MAX,
+        },
+    ];
+    let from = callers(&rt, alloc, &calls);
+    work_alone(
         &rt,
         alloc,
-        &to,
-        (1, &[LOGIN, LATEST]),
-        (&first, GREETING.len()),
-    )?;
-    call(
-        &rt,
-        alloc,
-        &to,
-        (2, &[LOGIN, LATEST]),
-        (&second, usize::MAX),
-    )?;
-    drop(to);
-    pool.work(&rt, alloc, &from, (empty_repository(alloc)?, AT_ZERO));
-    drop(from);
+        &pool,
+        &from,
+        (empty_repository(&rt, alloc), AT_ZERO),
+    );
     let is_full_again = is_filled(&rt, &pool, 17, 18);
-    let first = first.bytes.into_inner();
-    let second = second.bytes.into_inner();
-    let are_told = first.as_slice() == GREETING && is_welcomed(second.as_slice(), ZERO);
+    let are_told = first.has_heard(&rt, &[GREETING]) && second.has_heard(&rt, &[WELCOME, ZERO]);
     assert!(rt; is_full && are_told && is_full_again);
-    Ok(())
 }

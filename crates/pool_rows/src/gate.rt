@@ -3,22 +3,21 @@ ghost use Rattle.std.specs.Prelude.{◌≡◌, All};
 ghost use Rattle.access.specs.Points.{content_of};
 ghost use Rattle.repo_api.specs.Soundness.{AreSound};
 
-use crate::connections::{AT_ZERO, Client, LOGIN, MemoryCaller, NEVER, call, is_welcomed};
-use crate::repositories::empty_repository;
+use crate::connections::{AT_ZERO, Call, Client, LOGIN, MemoryCaller, NEVER, WELCOME, callers};
+use crate::repositories::{desks_at, empty_repository};
 use conversations::{Gate, Unwatched};
-use crossbeam_channel::{Receiver, unbounded};
+use crossbeam_channel::Receiver;
 use filed_world::FiledWorld;
 use machine::Options;
 use published::{Naming, NewHistory};
-use serving::{Desk, desks_of};
+use serving::Desk;
 use session_pool::SessionPool;
-use std::alloc::{AllocError, Global};
+use std::alloc::Global;
 use std::marker::Brand;
-use std::mem::drop;
+use std::process::Abort;
 use std::random::RandomSource;
 use std::sync::Wait;
 use std::sync::atomic::{AtomicBool, AtomicU64, Ordering};
-use std::test::Fail;
 use std::thread;
 use std::thread::Threads;
 use std::time::{Clock, Duration};
@@ -99,17 +98,17 @@ fn serve_in_threads<R, J, G>(
     pool: &SessionPool<'_, G, Unwatched>,
     callers: &Receiver<MemoryCaller<'_, R>>,
     desks: Vec<Desk<'_, R, FiledWorld, MemoryStore, J>>,
-) -> Result<(), AllocError>
+)
 where
     J: Naming + Send + Sync + 'static,
     G: Gate + Sync,
-    R: Clock + RandomSource + Threads + Wait + Sync,
+    R: Abort + Clock + RandomSource + Threads + Wait + Sync,
     requires { All (λ d. AreSound (content_of d.seat).revisions) desks.items }
 {
     thread::scope(
         thread::scope_env(),
         rt,
-        move |scope| -> Result<(), AllocError>
+        move |scope|
             requires { All (λ d. AreSound (content_of d.seat).revisions) desks.items }
         {
             for desk in desks {
@@ -118,11 +117,8 @@ where
                         requires { AreSound (content_of desk.seat).revisions }
                     { work_still(rt, alloc, pool, callers, desk) },
                 );
-                if worker.is_err() {
-                    return Err(AllocError);
-                }
+                assert!(rt; worker.is_ok());
             }
-            Ok(())
         },
     )
 }
@@ -134,36 +130,40 @@ fn serve_two<J, G, R>(
     gate: &G,
     clients: (&Client, &Client),
     history: NewHistory,
-) -> Result<(), Fail>
+)
 where
     J: Naming + Send + Sync + 'static,
     G: Gate + Sync,
-    R: Clock + RandomSource + Threads + Wait + Sync,
+    R: Abort + Clock + RandomSource + Threads + Wait + Sync,
     requires { history.seen.book ≡ J.book }
 {
-    let options = Options::new(alloc, "r")?;
+    let options = Options::new(alloc, "r").expect(rt, "memory");
     let pool = SessionPool::new(&options, gate, &Unwatched);
-    let (to, from) = unbounded(alloc)?;
-    call(rt, alloc, &to, (1, &[OPEN, REST]), (clients.0, usize::MAX))?;
-    call(
-        rt,
-        alloc,
-        &to,
-        (2, &[LOGIN, COMMIT]),
-        (clients.1, usize::MAX),
-    )?;
-    drop(to);
-    let stored = empty_repository(alloc)?;
-    let (_, desks) = desks_of::<R, FiledWorld, MemoryStore, J>(rt, alloc, stored, history)?;
-    serve_in_threads(rt, alloc, &pool, &from, desks)?;
-    Ok(())
+    let calls = [
+        Call {
+            pieces: &[OPEN, REST],
+            client: clients.0,
+            room: usize::MAX,
+        },
+        Call {
+            pieces: &[LOGIN, COMMIT],
+            client: clients.1,
+            room: usize::MAX,
+        },
+    ];
+    let from = callers(rt, alloc, &calls);
+    let stored = empty_repository(rt, alloc);
+    let (_, desks) = desks_at::<R, FiledWorld, MemoryStore, J>(rt, alloc, stored, history);
+    serve_in_threads(rt, alloc, &pool, &from, desks);
 }
 
 #[test]
-fn a_session_is_served_while_another_waits(rt: HostRuntime) -> Result<(), Fail> {
+fn a_session_is_served_while_another_waits(rt: HostRuntime) {
     let alloc = rt.alloc();
-    let first = Client::new(alloc, NEVER)?;
-    let second = Client::new(alloc, COMMITTED)?;
+    let (first, second) = (
+        Client::new(&rt, alloc, NEVER),
+        Client::new(&rt, alloc, COMMITTED),
+    );
     let turns = AtomicU64::new(MOST_TURNS);
     let gate = HoldsBack {
         clock: &rt,
@@ -176,9 +176,7 @@ fn a_session_is_served_while_another_waits(rt: HostRuntime) -> Result<(), Fail> 
         &gate,
         (&first, &second),
         NewHistory::new(),
-    )?;
+    );
     let is_let_go = turns.load(Ordering::SeqCst) < MOST_TURNS;
-    let told = first.bytes.into_inner();
-    assert!(rt; is_let_go && is_welcomed(told.as_slice(), ABORTED));
-    Ok(())
+    assert!(rt; is_let_go && first.has_heard(&rt, &[WELCOME, ABORTED]));
 }

@@ -1,39 +1,19 @@
 //! What is wrong with a name, an address and a file of users, in this order.
 
 use command_line::{Location, Service};
-use serving::{ServingFault, read_settings};
-use std::alloc::{AllocError, Global};
+use serving::read_settings;
+use std::alloc::Global;
 use std::fs;
+use std::process::Abort;
 use std::rt::Runtime;
-use std::test::Fail;
 
-/// Makes an order to serve, with this name, address and file of users.
-fn service(alloc: Global, name: &str, listen: &str, users: &str) -> Result<Service, AllocError> {
-    let name = String::from_str(alloc, name)?;
-    let listen = String::from_str(alloc, listen)?;
-    Ok(Service {
-        location: Location::Memory,
-        listen,
-        name,
-        users: String::from_str(alloc, users)?,
-        per_address: 16,
-        revprops: false,
-        quiet: true,
-    })
-}
-
-/// Gives a service's fault, if there is one.
-fn fault_of<R: Runtime>(
-    rt: &R,
-    alloc: Global,
-    (name, listen, users): (&str, &str, &str),
-) -> Result<Option<ServingFault>, Fail> {
-    let asked = service(alloc, name, listen, users)?;
-    Ok(read_settings(rt, alloc, &asked).err())
+/// Makes a copy of a text.
+fn text(rt: &impl Abort, alloc: Global, text: &str) -> String {
+    String::from_str(alloc, text).expect(rt, "memory")
 }
 
 /// Names, addresses and files of users, and what is told of the first fault among them.
-const FAULTS: [((&str, &str, &str), &str); 7] = [
+static FAULTS: [((&str, &str, &str), &str); 7] = [
     (
         (".", "localhost:1", "none"),
         "a name is 1 to 64 of A-Z, a-z, 0-9, `-`, `_` and `.`, and not `.` or `..`",
@@ -55,38 +35,38 @@ const FAULTS: [((&str, &str, &str), &str); 7] = [
     (("r", "127.0.0.1:1", "users"), ""),
 ];
 
-/// Says whether this is what is told of a service's fault, or nothing where it has none.
-fn is_told<R: Runtime>(
+/// Says whether this is what is told of the fault of an order to serve with this name, address and file of users, or
+/// nothing where it has none.
+fn is_told<R: Abort + Runtime>(
     rt: &R,
     alloc: Global,
-    asked: (&str, &str, &str),
+    (name, listen, users): (&str, &str, &str),
     wanted: &str,
-) -> Result<bool, Fail> {
-    let told = match fault_of(rt, alloc, asked)? {
-        Some(fault) => format!(in alloc; "{fault}")?,
-        None => String::new(alloc),
+) -> bool {
+    let asked = Service {
+        location: Location::Memory,
+        listen: text(rt, alloc, listen),
+        name: text(rt, alloc, name),
+        users: text(rt, alloc, users),
+        per_address: 16,
+        revprops: false,
+        quiet: true,
     };
-    Ok(told.as_str() == wanted)
-}
-
-/// Says whether the first fault of each service is told.
-fn are_told<R: Runtime>(rt: &R, alloc: Global) -> Result<bool, Fail> {
-    for (asked, wanted) in FAULTS {
-        if !is_told(rt, alloc, asked, wanted)? {
-            return Ok(false);
-        }
+    match read_settings(rt, alloc, &asked) {
+        Ok(_) => wanted.is_empty(),
+        Err(fault) => format!(in alloc; "{fault}").expect(rt, "memory").as_str() == wanted,
     }
-    Ok(true)
 }
 
 #[test]
-fn the_first_fault_is_told(rt: HostRuntime) -> Result<(), Fail> {
-    let alloc = rt.alloc();
-    fs::write(&rt, "faulty", b"[users]\nalice = secret\nbob\n")?;
-    fs::write(&rt, "users", b"[users]\nalice = secret\n")?;
-    let are_told = are_told(&rt, alloc)?;
-    fs::remove_file(&rt, "faulty")?;
-    fs::remove_file(&rt, "users")?;
+fn the_first_fault_is_told(rt: HostRuntime) {
+    fs::write(&rt, "faulty", b"[users]\nalice = secret\nbob\n").expect(&rt, "a file");
+    fs::write(&rt, "users", b"[users]\nalice = secret\n").expect(&rt, "a file");
+    let mut are_told = true;
+    for (asked, wanted) in FAULTS.iter() {
+        are_told &= is_told(&rt, rt.alloc(), *asked, wanted);
+    }
+    fs::remove_file(&rt, "faulty").expect(&rt, "the file");
+    fs::remove_file(&rt, "users").expect(&rt, "the file");
     assert!(rt; are_told);
-    Ok(())
 }

@@ -1,15 +1,12 @@
 //! What is told of logins, and of the ends of sessions.
 
-use crate::connections::{Client, LOGIN, NEVER, Still, call};
-use crate::repositories::empty_repository;
+use crate::connections::{Call, Client, LOGIN, NEVER, Still, callers};
+use crate::repositories::{empty_repository, work_alone};
 use conversations::{OpenGate, TalkFault, Watch};
 use cram::Users;
-use crossbeam_channel::unbounded;
 use machine::Options;
 use session_pool::SessionPool;
-use std::mem::drop;
 use std::sync::atomic::{AtomicU64, Ordering};
-use std::test::Fail;
 
 /// Counts what it is told: the logins of alice in session 1 and all logins, the logins that session 1 has refused, the
 /// sessions that are given up, and those that have ended without a halt.
@@ -49,7 +46,7 @@ impl Watch for Counts {
 
 /// The client's answer to `<7.1000000@r>` is refused, since its digest is that under another password; then alice logs
 /// in. The digests are those of Python's `hmac`, under `Secret` and under `secret`.
-const PIECES: [&[u8]; 5] = [
+static PIECES: [&[u8]; 5] = [
     b"( 2 ( edit-pipeline ) 9:svn://h/r ) ",
     b"( CRAM-MD5 ( ) ) ",
     b"38:alice 17e8937c04f779be38c3f92f4469ca1a ",
@@ -75,10 +72,12 @@ fn is_counted(counts: &Counts) -> bool {
 }
 
 #[test]
-fn logins_and_ends_are_told(rt: HostRuntime) -> Result<(), Fail> {
+fn logins_and_ends_are_told(rt: HostRuntime) {
     let alloc = rt.alloc();
-    let users = Users::read(alloc, b"[users]\nalice = secret\n")?;
-    let options = Options::new(alloc, "r")?.with_users(users);
+    let users = Users::read(alloc, b"[users]\nalice = secret\n").expect(&rt, "users");
+    let options = Options::new(alloc, "r")
+        .expect(&rt, "memory")
+        .with_users(users);
     let counts = Counts {
         of_alice: AtomicU64::new(0),
         logins: AtomicU64::new(0),
@@ -87,24 +86,39 @@ fn logins_and_ends_are_told(rt: HostRuntime) -> Result<(), Fail> {
         ended: AtomicU64::new(0),
     };
     let pool = SessionPool::new(&options, &OpenGate, &counts);
-    let alice = Client::new(alloc, NEVER)?;
-    let nobody = Client::new(alloc, NEVER)?;
-    let lost = Client::new(alloc, NEVER)?;
-    let (to, from) = unbounded(alloc)?;
-    call(&rt, alloc, &to, (1, &PIECES), (&alice, usize::MAX))?;
-    call(&rt, alloc, &to, (2, &[LOGIN]), (&nobody, usize::MAX))?;
-    call(&rt, alloc, &to, (3, &[LOGIN]), (&lost, 10))?;
-    drop(to);
-    let desk = (
-        empty_repository(alloc)?,
-        Still {
-            moment: 1_000_000,
-            nonce: 7,
-        },
+    let (alice, nobody) = (
+        Client::new(&rt, alloc, NEVER),
+        Client::new(&rt, alloc, NEVER),
     );
-    pool.work(&rt, alloc, &from, desk);
-    drop(from);
-    let told = alice.bytes.into_inner();
-    assert!(rt; told.as_slice() == TOLD && is_counted(&counts));
-    Ok(())
+    let lost = Client::new(&rt, alloc, NEVER);
+    let calls = [
+        Call {
+            pieces: &PIECES,
+            client: &alice,
+            room: usize::MAX,
+        },
+        Call {
+            pieces: &[LOGIN],
+            client: &nobody,
+            room: usize::MAX,
+        },
+        Call {
+            pieces: &[LOGIN],
+            client: &lost,
+            room: 10,
+        },
+    ];
+    let from = callers(&rt, alloc, &calls);
+    let envs = Still {
+        moment: 1_000_000,
+        nonce: 7,
+    };
+    work_alone(
+        &rt,
+        alloc,
+        &pool,
+        &from,
+        (empty_repository(&rt, alloc), envs),
+    );
+    assert!(rt; alice.has_heard(&rt, &[TOLD]) && is_counted(&counts));
 }

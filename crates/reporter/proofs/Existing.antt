@@ -6,7 +6,8 @@ use Rattle.svnpath.specs.{PathLaws.under_itself, Paths.PathValue}
 use Rattle.repo_api.specs.Trees.{is_directory_there}
 use Rattle.reporter.specs.{declared.unvisited.Unvisited.Unvisited, declared.visit.Visit.Visit, declared.visit.Visit.TheVariants.{Open, Add}}
 use Rattle.reporter.specs.{Left.{ArePlansOf, IsLeft, IsPlanBelow, IsPlanOf, behind}, Nesting.entry_visits}
-use Rattle.reporter.specs.Walks.{WalkedTrees, IsChild, IsDue, IsListed, IsSame, IsShorter, deletes_of, goes}
+use Rattle.reporter.specs.Walks.{WalkedTrees, IsChild, IsDue, IsListed, IsSame, IsShorter, deletes_of}
+use Rattle.small_rules.specs.Going.{goes}
 use Rattle.reporter.proofs.{Planning.same_length, Plans.{Leads, absent, added, below_directory, below_file, comes, opened, same, staying}, Visiting.reason_of}
 
 -- something is to be said of an entry itself, or it is the same

@@ -7,3 +7,5 @@ pub mod Plans
 pub mod Reasons
 pub mod Leaving
 pub mod Existing
+pub mod Pairs
+pub mod Remembering

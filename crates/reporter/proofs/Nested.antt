@@ -7,7 +7,8 @@ use Rattle.repo_api.specs.{Trees.{is_directory_there, Tree}, declared.entry.Entr
 use Rattle.drive_rules.specs.Places.{is_in_directory}
 use Rattle.drive_rules.proofs.Joined.{or_left, and_both}
 use Rattle.reporter.specs.{declared.visit.Visit.Visit, declared.visit.Visit.TheVariants.{Delete, Close}}
-use Rattle.reporter.specs.{Nesting.{after_entry_visit, after_visit, walk, AreNested, entry_visits, stands_as}, Walks.{IsChild, goes, going, deletes_of}}
+use Rattle.reporter.specs.{Nesting.{after_entry_visit, after_visit, walk, AreNested, entry_visits, stands_as}, Walks.{IsChild, going, deletes_of}}
+use Rattle.small_rules.specs.Going.{goes}
 
 no_some : {X : Type 0} (x : X) → ◌≡◌ {A = Option X} None (Some x) → ⊥
 no_some x e = false≢true (ap is_some e)

@@ -8,7 +8,8 @@ use Rattle.drive_rules.specs.{Drives.IsRight, Scopes.under, Steps.Step}
 use Rattle.drive_rules.proofs.{Joined.{or_false, reach_named, joined, nothing}, Entries.{rescoped, under_more}}
 use Rattle.reporter.specs.{declared.visit.Visit.Visit, declared.visit.Visit.TheVariants.{Open, Add}, Left.{IsPlanOf, IsPlanBelow, IsEntry, ArePlansOf}}
 use Rattle.reporter.specs.{Nesting.{AreNested, entry_visit, entry_visits}, Visits.{IsRightPlan, plan_steps}, Walks.{WalkedTrees, any_under, BothHold}}
-use Rattle.reporter.specs.Walks.{HasReasonAt, IsListed, IsSame, AreApart, IsChild, AreAlike, LeadsOver, goes, old_side, left_of, deletes_of}
+use Rattle.reporter.specs.Walks.{HasReasonAt, IsListed, IsSame, AreApart, IsChild, AreAlike, LeadsOver, old_side, left_of, deletes_of}
+use Rattle.small_rules.specs.Going.{goes}
 use Rattle.reporter.proofs.{Nested.{nested_nothing, nested_append, nested_deletes, nested_entry, child_inside}, Planning.{any_more, reseated, left_under}}
 use Rattle.reporter.proofs.Planning.{all_children, left_all, with_cuts, nothing_new, nothing_alike, nothing_below, child_sound, plan_steps_append, stays_gone}
 use Rattle.reporter.proofs.{Planning.{with_close, added_entry, not_false}, Visiting.{false_or, entry_anew, entry_opened, entry_same}}

@@ -1,14 +1,15 @@
 -- Why an entry is named, and that nothing is said where there is no reason.
 use Rattle.std.proofs.Common.{arith, ◌≡◌, ◌<◌, ◌+◌, ℕ, Bool, true, false, ◌||◌, not, List, [], ◌∷◌, ◌++◌, length, get_or, map, take, Option, Some, None, refl}
-use Rattle.std.proofs.{Common.{sym, ap, ◌∙◌, subst, inl, inr, option_map, if◌then◌else◌, MatchBool}, lemmas.Bool.false≢true, lemmas.List.take_more}
+use Rattle.std.proofs.{Common.{drop, sym, ap, ◌∙◌, subst, inl, inr, option_map, if◌then◌else◌, MatchBool}, lemmas.Bool.false≢true, lemmas.List.{length-append, take_more}}
 use Rattle.std.specs.Prelude.{is_some}
-use Rattle.svnpath.specs.{PathLaws.{under_append, under_itself}, Paths.{is_at_or_under, PathValue}}
-use Rattle.repo_api.specs.{Trees.Tree, declared.entry.Entry.Entry}
+use Rattle.svnpath.specs.{PathLaws.{under_append, under_is, under_itself}, Paths.{is_at_or_under, PathValue}}
+use Rattle.repo_api.specs.{Trees.{is_directory, Tree}, declared.entry.Entry.Entry}
 use Rattle.drive_rules.specs.Steps.{node_of}
-use Rattle.drive_rules.proofs.Entries.{under_more}
+use Rattle.drive_rules.proofs.Entries.{no_length, under_more}
 use Rattle.reporter.specs.{declared.visit.Visit.TheVariants.Delete, Left.{IsPlanBelow, IsSilent, ArePlansOf}}
-use Rattle.reporter.specs.Walks.{WalkedTrees, HasReasonAt, IsChild, IsListed, goes, going, IsSame}
-use Rattle.reporter.proofs.{Planning.{goes_differs, same_length}, Plans.{below_directory, plans_append, absent, same}}
+use Rattle.reporter.specs.Walks.{WalkedTrees, HasReasonAt, IsChild, IsListed, AreAlike, going}
+use Rattle.small_rules.specs.Going.{goes}
+use Rattle.reporter.proofs.{Planning.{goes_differs, same_length}, Plans.{below_directory, plans_append, absent, alike as all_alike}}
 
 -- what goes has a reason
 pub going_reason : (t : WalkedTrees) (p : PathValue) → goes (t.old p) (t.new p) ≡ true → HasReasonAt t p
@@ -30,6 +31,14 @@ reason_above t p x child (inl root) = absurd (none (ap (λ y. length y) root))
     none : length x ≡ length {A = List ℕ} [] → ⊥
     none e = let one : length x ≡ length p + 1 = same_length p x child in omega (one, e, arith)
 reason_above t p x child (inr w) = inr (w.0, under_more w.0 x p w.1 (subst (λ y. is_at_or_under y p ≡ true) (sym child.1) (under_append p (child.0 ∷ []))), w.2)
+
+-- and what is at or above it
+pub reason_over : (t : WalkedTrees) (p q : PathValue) → is_at_or_under q p ≡ true → HasReasonAt t q → HasReasonAt t p
+reason_over t p q under (inl root) = inl (no_length p (omega (long, ap (λ x. length x) root, arith)))
+  where
+    long : length q ≡ length p + length (drop (length p) q)
+    long = ap (λ x. length x) (under_is q p under) ∙ length-append p (drop (length p) q)
+reason_over t p q under (inr w) = inr (w.0, under_more w.0 q p w.1 under, w.2)
 
 -- ---- where nothing is said
 
@@ -61,7 +70,17 @@ pub going_or_absent : (t : WalkedTrees) (p : PathValue) (b : Bool) → is_some (
 going_or_absent t p true none is = going_reason t p (sym is)
 going_or_absent t p false none is = (sym is, absent t false p none)
 
--- an entry is the same, and something is said below it or nothing
-pub silent_if : (t : WalkedTrees) (p : PathValue) (b : Bool) → goes (t.old p) (t.new p) ≡ false → IsSame t p → MatchBool b (HasReasonAt t p) (IsPlanBelow t false p []) → MatchBool b (HasReasonAt t p) (IsSilent t p)
-silent_if t p true stays is reason = reason
-silent_if t p false stays is none = (stays, same t p stays is none)
+-- what is alike stays
+pub alike_stays : (t : WalkedTrees) (p : PathValue) → AreAlike t p → goes (t.old p) (t.new p) ≡ false
+alike_stays t p alike = ap (λ e. goes e (t.new p)) (alike p (under_itself p)).0 ∙ by (t.new p)
+  where
+    bools : (b : Bool) → (if b then not b else b) ≡ false
+    bools true = refl
+    bools false = refl
+
+    by : (e : Option Entry) → goes e e ≡ false
+    by None = refl
+    by (Some x) = bools (is_directory x)
+
+pub alike_silent : (t : WalkedTrees) (p : PathValue) → AreAlike t p → IsSilent t p
+alike_silent t p alike = (alike_stays t p alike, all_alike t p (alike_stays t p alike) alike)

@@ -8,7 +8,8 @@ use Rattle.drive_rules.specs.{Drives.{created_revision, HasReason, IsInBoth, IsO
 use Rattle.drive_rules.specs.Steps.{is_named, is_of_kind, Node, node_at, node_of, Step}
 use Rattle.drive_rules.proofs.{Joined.{or_left, nothing}, Entries.{around, opened, fresh, below_under, no_length, under_more}}
 use Rattle.reporter.specs.{declared.visit.Visit.Visit, declared.visit.Visit.TheVariants.{Open, Add, Delete, Close}, Nesting.AreNested}
-use Rattle.reporter.specs.{Visits.{kind_if, entry_kind, plan_steps}, Walks.{goes, old_side, IsNeeded, LeadsOver}}
+use Rattle.reporter.specs.{Visits.{kind_if, entry_kind, plan_steps}, Walks.{old_side, IsNeeded, LeadsOver}}
+use Rattle.small_rules.specs.Going.{goes}
 use Rattle.reporter.proofs.Nested.{nested_opens}
 
 pub false_or : (b : Bool) → (b ≡ true → ⊥) → b ≡ false

@@ -2,9 +2,10 @@
 use Rattle.std.specs.Prelude.{◌≡◌, Bool, true, false, ◌||◌, List, [], ◌∷◌, ◌++◌}
 use Rattle.svnpath.specs.Paths.{PathValue}
 use Rattle.drive_rules.specs.{Places.is_in_directory, Scopes.{below, under}}
-use Rattle.reporter.specs.{Nesting.{AreNested, entry_visit, entry_visits}, Visits.IsRightPlan, Walks.{WalkedTrees, BothHold, deletes_of, goes, old_side}}
+use Rattle.reporter.specs.{Nesting.{AreNested, entry_visit, entry_visits}, Visits.IsRightPlan, Walks.{WalkedTrees, BothHold, deletes_of, old_side}}
 use Rattle.reporter.specs.{declared.unvisited.Found.Found, declared.unvisited.Found.TheVariants.{Nothing, Single, Entered}}
 use Rattle.reporter.specs.{declared.unvisited.Unvisited.Unvisited, declared.visit.Visit.Visit, declared.visit.Visit.TheVariants.{Close, Open}}
+use Rattle.small_rules.specs.Going.{goes}
 
 -- ---- plans
 
@@ -57,12 +58,16 @@ ArePlansOf t anew (p ∷ ps) vs =
 
 -- ---- what is left
 
--- of these paths all is left: what goes, and then each entry
-pub record IsUnvisited (t : WalkedTrees) (anew : Bool) (ps : List PathValue) (d : Unvisited)
-    : Type 0 where
-  pub deletes : d.deletes.items ≡ deletes_of anew t.old t.new ps
-  pub entries : d.entries.items ≡ ps
-  pub is_anew : d.is_anew ≡ anew
+-- these visits are of all that is at and under these paths: what goes, and then each entry
+abbrev pub AreVisitsOf : WalkedTrees → Bool → List PathValue → List Visit → Type 0
+AreVisitsOf t anew ps vs =
+    (later : List Visit) × (vs ≡ deletes_of anew t.old t.new ps ++ later)
+    × ArePlansOf t anew ps later
+
+-- what is to be said of these paths is to be said of those that were kept of them, and no more
+pub record IsEnough (t : WalkedTrees) (ps kept : List PathValue) : Type 0 where
+  pub deletes : deletes_of false t.old t.new kept ≡ deletes_of false t.old t.new ps
+  pub plans : (vs : List Visit) → ArePlansOf t false kept vs → ArePlansOf t false ps vs
 
 -- these may be the visits of what is left in a directory
 abbrev pub IsLeftIn : WalkedTrees → Unvisited → List Visit → Type 0

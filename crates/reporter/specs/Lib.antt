@@ -3,4 +3,5 @@ pub mod Nesting
 pub mod Walks
 pub mod Own
 pub mod Left
+pub mod Remembered
 pub mod Visiting

@@ -1,12 +1,17 @@
 -- What a visitor has left.
-use Rattle.std.specs.Prelude.{List, [], ◌∷◌, Option, MatchOption}
-use Rattle.reporter.specs.{Left.IsLeft, Walks.WalkedTrees, declared.visit.Visit.Visit, declared.visitor.Visitor.Visitor}
+use Rattle.std.specs.Prelude.{◌≡◌, List, [], ◌∷◌, Option, MatchOption}
+use Rattle.reporter.specs.{Left.IsLeft, Remembered.Remembers, Walks.WalkedTrees, declared.unvisited.Unvisited.Unvisited, declared.visit.Visit.Visit, declared.visitor.Visitor.Visitor}
 
--- these may be the visits that a visitor has left
+-- these may be the visits that a visitor has left, if what it remembers is so
 abbrev pub MayVisit : WalkedTrees → Visitor → List Visit → Type 0
-MayVisit t visitor visits = IsLeft t visitor.open.items visits
+MayVisit t visitor visits = Remembers t visitor.memory → IsLeft t visitor.open.items visits
 
 -- the visits go on by this one, or have come to their end
 abbrev pub IsNext : WalkedTrees → Visitor → Visitor → Option Visit → Type 0
 IsNext t old new found = MatchOption found (MayVisit t old [])
     (λ v. (vs : List Visit) → MayVisit t new vs → MayVisit t old (v ∷ vs))
+
+-- a visitor is at its beginning: one directory is open, and what it remembers is so of any trees
+pub record IsNew (visitor : Visitor) (here : Unvisited) : Type 0 where
+  pub first : visitor.open.items ≡ here ∷ []
+  pub memory : (t : WalkedTrees) → Remembers t visitor.memory

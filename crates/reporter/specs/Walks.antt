@@ -1,10 +1,11 @@
 -- What a walk over two trees needs to know of them.
-use Rattle.std.specs.Prelude.{◌≡◌, ◌<◌, ℕ, Bool, true, false, not, if◌then◌else◌, is_some, List, [], ◌∷◌, ◌++◌, Option, Some, None, IsSome, ◌⊎◌, length, All}
+use Rattle.std.specs.Prelude.{◌≡◌, ◌<◌, ℕ, Bool, true, false, is_some, List, [], ◌∷◌, ◌++◌, Option, Some, None, IsSome, ◌⊎◌, length, All}
 use Rattle.std.specs.{Prelude.{option_map, filter, map}, List.list_any}
 use Rattle.svnpath.specs.Paths.{Component, is_at_or_under, PathValue}
-use Rattle.repo_api.specs.{Kinds.kind_of, Trees.{HasFile, is_directory, is_directory_there, Tree}, declared.entry.Entry.Entry}
+use Rattle.repo_api.specs.{Kinds.kind_of, Trees.{HasFile, is_directory_there, Tree}, declared.entry.Entry.Entry}
 use Rattle.drive_rules.specs.{Drives.{created_revision, Differs, HasOtherText, HasReason, IsOfOneKind}, Scopes.{below, HoldsTogether, tree_without}}
 use Rattle.drive_rules.specs.Steps.{after_steps, all_meet, empty_content, has_step, is_text, IsOwn, no_properties, Node, node_at}
+use Rattle.small_rules.specs.Going.{goes}
 use Rattle.reporter.specs.{declared.kinds.Kinds.Kinds, declared.visit.Visit.Visit, declared.visit.Visit.TheVariants.Delete, Visits.{OwnSteps, entry_kind}}
 
 -- ---- both trees
@@ -60,12 +61,6 @@ IsShorter t bound = (q : PathValue) → is_some (t q) ≡ true → length q < bo
 
 -- ---- what goes
 
--- an entry goes, or comes anew as another kind
-abbrev pub goes : Option Entry → Option Entry → Bool
-goes None new = false
-goes (Some e) None = true
-goes (Some e) (Some f) = if is_directory e then not (is_directory f) else is_directory f
-
 -- the paths of what goes
 abbrev pub going : Tree → Tree → List PathValue → List PathValue
 going old new ps = filter (λ p. goes (old p) (new p)) ps
@@ -107,6 +102,13 @@ pub record IsSame (t : WalkedTrees) (p : PathValue) : Type 0 where
 abbrev pub AreAlike : WalkedTrees → PathValue → Type 0
 AreAlike t p =
     (q : PathValue) → is_at_or_under q p ≡ true → (t.old q ≡ t.new q) × (t.stale q ≡ false)
+
+-- the pairs of entries at both paths are one: on each side all is the same at and under them, and
+-- no token is stale at or under the second
+abbrev pub IsSamePair : WalkedTrees → PathValue → PathValue → Type 0
+IsSamePair t p q =
+    (rest : PathValue) → (t.old (p ++ rest) ≡ t.old (q ++ rest))
+    × (t.new (p ++ rest) ≡ t.new (q ++ rest)) × (t.stale (q ++ rest) ≡ false)
 
 -- something is to be said of the entry itself: it differs, or its token is stale
 abbrev pub IsDue : WalkedTrees → PathValue → Type 0

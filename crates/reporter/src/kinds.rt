@@ -1,7 +1,7 @@
 //! What stands at a path on both sides.
 ghost use Rattle.std.specs.Prelude.{◌≡◌, ◌||◌, not, Option, is_some};
 ghost use Rattle.repo_api.specs.{Kinds.kind_of, declared.entry.Entry.Entry};
-ghost use Rattle.reporter.specs.Walks.{goes};
+ghost use Rattle.small_rules.specs.Going.{goes};
 
 use repo_api::NodeKind;
 
@@ -17,11 +17,7 @@ pub(crate) fn goes(kinds: Kinds) -> bool
     ensures { (e f : Option Entry) → kinds.old ≡ kind_of e → kinds.new ≡ kind_of f
         → result ≡ goes e f }
 {
-    match kinds.old {
-        NodeKind::Absent => false,
-        NodeKind::File => !kinds.new.is_file(),
-        NodeKind::Directory => !kinds.new.is_directory(),
-    }
+    small_rules::goes(kinds.old, kinds.new)
 }
 
 /// Says whether an entry that is to exist there is added: nothing existed there, or another kind.

@@ -3,6 +3,7 @@
 
 mod kinds;
 mod making;
+mod memory;
 mod searching;
 mod sides;
 mod unvisited;

@@ -1,9 +1,10 @@
 //! The visits of one directory, made one after another.
 ghost use Rattle.std.specs.Prelude.{◌≡◌, ◌∷◌, [], false, IfOk, List};
-ghost use Rattle.reporter.specs.{Left.{IsEntry, IsFound, IsLeftIn, IsPlanBelow, IsPlanOf, IsUnvisited, IsNextFound}, Nesting.entry_visit};
-ghost use Rattle.reporter.specs.{Walks.{deletes_of, MayEnter}, declared.visit.Visit.Visit};
+ghost use Rattle.reporter.specs.{Left.{AreVisitsOf, IsEnough, IsEntry, IsFound, IsLeftIn, IsPlanBelow, IsPlanOf, IsNextFound}, Nesting.entry_visit};
+ghost use Rattle.reporter.specs.{Remembered.IfRemembers, Walks.{deletes_of, MayEnter}, declared.visit.Visit.Visit};
 
 use crate::kinds::{goes, is_added};
+use crate::memory::Memory;
 use crate::searching::has_news;
 use crate::sides::Sides;
 use crate::unvisited::{Found, Unvisited};
@@ -13,25 +14,48 @@ use std::collections::VecDeque;
 use svnpath::Path;
 
 /// Makes the visits of what goes among these paths.
-fn deletes_of<S: Sides>(
-    alloc: Global,
-    sides: &S,
-    paths: &[Path],
-    is_anew: bool,
-) -> Result<Vec<Visit>, AllocError>
+fn deletes_of<S: Sides>(alloc: Global, sides: &S, paths: &[Path]) -> Result<Vec<Visit>, AllocError>
     ensures { IfOk result (λ v. v.items
-        ≡ deletes_of is_anew (S.trees sides.now).old (S.trees sides.now).new paths.now) }
+        ≡ deletes_of false (S.trees sides.now).old (S.trees sides.now).new paths.now) }
 {
     let mut visits = Vec::new(alloc);
-    if is_anew {
-        return Ok(visits);
-    }
     for path in paths {
         if goes(sides.kinds(alloc, path)?) {
             visits.push(Visit::Delete(path.clone()?))?;
         }
     }
     Ok(visits)
+}
+
+/// Keeps those of these paths at and under which not all is the same.
+fn unlike_among<S: Sides>(alloc: Global, sides: &S, paths: &[Path]) -> Result<Vec<Path>, AllocError>
+    ensures { IfOk result (λ kept. IsEnough (S.trees sides.now) paths.now kept.items) }
+{
+    let mut kept = Vec::new(alloc);
+    for path in paths {
+        if !sides.is_alike(alloc, path)? {
+            kept.push(path.clone()?)?;
+        }
+    }
+    Ok(kept)
+}
+
+/// Finds what is to be visited of these paths where their directory stays: what goes, and then each entry.
+fn unvisited_staying<S: Sides>(
+    alloc: Global,
+    sides: &S,
+    paths: &[Path],
+) -> Result<Unvisited, AllocError>
+    ensures { IfOk result (λ here. (vs : List Visit) → IsLeftIn (S.trees sides.now) here vs
+        → AreVisitsOf (S.trees sides.now) false paths.now vs) }
+{
+    let kept = unlike_among(alloc, sides, paths)?;
+    let deletes = deletes_of(alloc, sides, &kept)?;
+    Ok(Unvisited {
+        deletes: VecDeque::from_vec(deletes),
+        entries: VecDeque::from_vec(kept),
+        is_anew: false,
+    })
 }
 
 /// Finds what is to be visited of these paths: what goes, and then each entry.
@@ -41,11 +65,14 @@ fn unvisited_among<S: Sides>(
     paths: Vec<Path>,
     is_anew: bool,
 ) -> Result<Unvisited, AllocError>
-    ensures { IfOk result (IsUnvisited (S.trees sides.now) is_anew paths.items) }
+    ensures { IfOk result (λ here. (vs : List Visit) → IsLeftIn (S.trees sides.now) here vs
+        → AreVisitsOf (S.trees sides.now) is_anew paths.items vs) }
 {
-    let deletes = deletes_of(alloc, sides, &paths, is_anew)?;
+    if !is_anew {
+        return unvisited_staying(alloc, sides, &paths);
+    }
     Ok(Unvisited {
-        deletes: VecDeque::from_vec(deletes),
+        deletes: VecDeque::new(alloc),
         entries: VecDeque::from_vec(paths),
         is_anew,
     })
@@ -57,7 +84,8 @@ pub(crate) fn unvisited_top<S: Sides>(
     sides: &S,
     top: &Path,
 ) -> Result<Unvisited, AllocError>
-    ensures { IfOk result (IsUnvisited (S.trees sides.now) false (top.now ∷ [])) }
+    ensures { IfOk result (λ here. (vs : List Visit) → IsLeftIn (S.trees sides.now) here vs
+        → AreVisitsOf (S.trees sides.now) false (top.now ∷ []) vs) }
 {
     let mut paths = Vec::new(alloc);
     paths.push(top.clone()?)?;
@@ -112,11 +140,13 @@ fn entered<S: Sides>(
 fn found_at<S: Sides>(
     alloc: Global,
     sides: &S,
+    memory: &mut Memory,
     path: Path,
     is_anew: bool,
 ) -> Result<Found, AllocError>
-    ensures { IfOk result (λ found. (vs : List Visit) → IsFound (S.trees sides.now) found vs
-        → IsPlanOf (S.trees sides.now) is_anew path vs) }
+    ensures { IfOk result (λ found. IfRemembers (S.trees sides.now) memory.old memory.new
+        ((vs : List Visit) → IsFound (S.trees sides.now) found vs
+        → IsPlanOf (S.trees sides.now) is_anew path vs)) }
 {
     let kinds = sides.kinds(alloc, &path)?;
     if !kinds.new.is_present() {
@@ -124,33 +154,44 @@ fn found_at<S: Sides>(
     }
     let comes = is_anew || is_added(kinds);
     let is_directory = kinds.new.is_directory();
-    if !comes && !has_news(alloc, sides, &path, is_directory)? {
+    if comes {
+        return entered(alloc, sides, path, true, is_directory);
+    }
+    if !has_news(alloc, sides, memory, &path, is_directory)? {
         return Ok(Found::Nothing);
     }
-    entered(alloc, sides, path, comes, is_directory)
+    entered(alloc, sides, path, false, is_directory)
 }
 
 /// Finds what is visited next in a directory.
 pub(crate) fn next_found<S: Sides>(
     alloc: Global,
     sides: &S,
+    memory: &mut Memory,
     here: &mut Unvisited,
 ) -> Result<Found, AllocError>
-    ensures { IfOk result (IsNextFound (S.trees sides.now) here.old here.new) }
+    ensures { IfOk result (λ found. IfRemembers (S.trees sides.now) memory.old memory.new
+        (IsNextFound (S.trees sides.now) here.old here.new found)) }
 {
     if let Some(visit) = here.deletes.pop_front() {
         return Ok(Found::Single(visit));
     }
-    next_entry(alloc, sides, here)
+    next_entry(alloc, sides, memory, here)
 }
 
 /// Finds what is visited next of the entries of a directory, where nothing is left that goes.
-fn next_entry<S: Sides>(alloc: Global, sides: &S, here: &mut Unvisited) -> Result<Found, AllocError>
+fn next_entry<S: Sides>(
+    alloc: Global,
+    sides: &S,
+    memory: &mut Memory,
+    here: &mut Unvisited,
+) -> Result<Found, AllocError>
     requires { here.old.deletes.items ≡ [] }
-    ensures { IfOk result (IsNextFound (S.trees sides.now) here.old here.new) }
+    ensures { IfOk result (λ found. IfRemembers (S.trees sides.now) memory.old memory.new
+        (IsNextFound (S.trees sides.now) here.old here.new found)) }
 {
     while let Some(path) = here.entries.pop_front() {
-        let found = found_at(alloc, sides, path, here.is_anew)?;
+        let found = found_at(alloc, sides, memory, path, here.is_anew)?;
         if !found.is_nothing() {
             return Ok(found);
         }

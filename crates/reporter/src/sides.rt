@@ -1,6 +1,6 @@
 //! Two trees side by side.
 ghost use Rattle.std.specs.Prelude.{◌≡◌, ℕ, true, IfOk, MatchBool};
-ghost use Rattle.reporter.specs.Walks.{WalkedTrees, IsSame, IsShorter, AreAlike, LeadsOver, AreKindsAt, IsListed, IsDue};
+ghost use Rattle.reporter.specs.Walks.{WalkedTrees, IsSame, IsSamePair, IsShorter, AreAlike, LeadsOver, AreKindsAt, IsListed, IsDue};
 
 use crate::kinds::Kinds;
 use std::alloc::{AllocError, Global};
@@ -31,6 +31,16 @@ pub trait Sides {
     /// is always right, and makes the walk longer.
     fn is_alike(&self, alloc: Global, path: &Path) -> Result<bool, AllocError>
         ensures { IfOk result (λ alike. alike ≡ true → AreAlike (trees self.now) path.now) };
+
+    /// Gives a number to look up the pair of entries at a path by, or `None` if it is not one to be remembered. Nothing
+    /// but the time of a walk rests on it.
+    fn pair_key(&self, alloc: Global, path: &Path) -> Result<Option<u64>, AllocError>;
+
+    /// Says whether the pairs of entries at two paths are one, so that all beneath them is the same. A false answer is
+    /// always right, and makes the walk longer.
+    fn is_same_pair(&self, alloc: Global, path: &Path, other: &Path) -> Result<bool, AllocError>
+        ensures { IfOk result (λ same. same ≡ true
+            → IsSamePair (trees self.now) path.now other.now) };
 
     /// Says whether something is to be said of the entry itself.
     fn is_due(&self, alloc: Global, path: &Path) -> Result<bool, AllocError>

@@ -1,5 +1,6 @@
 //! The visits of a drive, made as they are asked for.
 use crate::making::{next_found, unvisited_below, unvisited_top};
+use crate::memory::Memory;
 use crate::sides::Sides;
 use crate::unvisited::{Found, Unvisited};
 use crate::visit::Visit;
@@ -8,17 +9,18 @@ use std::collections::VecDeque;
 use svnpath::Path;
 
 /// The visits of a drive, made as they are asked for: it keeps the directories that are open, the
-/// innermost first, each with what is not visited in it. So it takes no more memory than these
-/// directories have entries, however many paths the drive names.
+/// innermost first, each with what is not visited in it, and what was found out of paths that were searched. So it takes no
+/// more memory than these directories have entries, and the paths that it remembers, however many paths the drive names.
 #[derive(Drop)]
 pub struct Visitor {
     open: VecDeque<Unvisited>,
+    memory: Memory,
 }
 
 impl Visitor {
     ghost use Rattle.std.specs.Prelude.{◌≡◌, ◌∷◌, [], IfOk, List, MatchOption};
     ghost use Rattle.repo_api.specs.Trees.{HasDirectory};
-    ghost use Rattle.reporter.specs.{Left.{behind, IsRootPlan, IsTopPlan}, Visiting.{MayVisit, IsNext}, declared.visit.Visit.Visit};
+    ghost use Rattle.reporter.specs.{Left.{behind, IsRootPlan, IsTopPlan}, Visiting.{MayVisit, IsNew, IsNext}, declared.visit.Visit.Visit};
 
     /// Makes the visits of a drive of the whole tree: what it does below the root, which is opened
     /// before.
@@ -43,11 +45,14 @@ impl Visitor {
 
     /// Makes the visits of one directory.
     fn of(alloc: Global, here: Unvisited) -> Result<Self, AllocError>
-        ensures { IfOk result (λ v. v.open.items ≡ here ∷ []) }
+        ensures { IfOk result (λ v. IsNew v here) }
     {
         let mut open = VecDeque::new(alloc);
         open.push_front(here)?;
-        Ok(Visitor { open })
+        Ok(Visitor {
+            open,
+            memory: Memory::new(alloc),
+        })
     }
 
     /// Gives the next visit. After the last there is none, and after an error none is to be asked
@@ -62,7 +67,7 @@ impl Visitor {
         let Some(mut here) = self.open.pop_front() else {
             return Ok(None);
         };
-        match next_found(alloc, sides, &mut here)? {
+        match next_found(alloc, sides, &mut self.memory, &mut here)? {
             Found::Nothing => Ok(self.closed()),
             Found::Single(visit) => {
                 self.open.push_front(here)?;

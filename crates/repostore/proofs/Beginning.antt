@@ -1,11 +1,12 @@
 -- How the files of a new repository are written.
-use Rattle.std.proofs.Common.{◌≡◌, ◌≢◌, ◌⊎◌, inl, inr, refl, ⊎_elim, ap, ◌∙◌, ℕ, List, [], ◌∷◌, Option, Some, arith}
+use Rattle.std.proofs.Common.{◌≡◌, ◌≢◌, ◌⊎◌, inl, inr, refl, ⊎_elim, ap, sym, ◌∙◌, ℕ, List, [], ◌∷◌, Option, Some, arith}
 use Rattle.std.specs.Prelude.{◌<◌, ◌↔◌, Result, Ok, Err, IsErr, IsErrOf}
 use Rattle.store_files.specs.{Folders.{Folder, IsSame, SameBut, Scribbled, text_of}, Moments.Elapses, Stops.LeavesOnly, declared.name.FileName.FileName}
 use Rattle.store_files.specs.declared.store.Store.{Ghosts}
 use Rattle.store_files.specs.declared.name.FileName.TheVariants.{Format, Kind, Uuid, Current, Locks, Revision, Properties, RepositoryFormat}
 use Rattle.store_files.specs.{Faults.IsRefused, declared.fault.ReplaceFault.ReplaceFault, declared.fault.ReplaceFault.TheVariants.{InDoubt, NoMemory, Unchanged}}
-use Rattle.repostore.specs.{Current.count_in, Files.{Files, HasFiles}, Saving.{Stands, Going}, Creating.{IsFreeWith, IsFreeOrHas}}
+use Rattle.fsfs_format.specs.Formats.{layout_in, shard_in}
+use Rattle.repostore.specs.{Current.count_in, Files.{Files, HasFiles, revision_name, properties_name}, Saving.{Stands, Going}, Creating.{IsFreeWith, IsFreeOrHas}}
 use Rattle.repostore.proofs.{Reaching.closed, Steps.{begun, goes_on, weaker, wrote, with_bytes, unchanged}, Joining.join}
 
 -- files with their bytes
@@ -34,23 +35,25 @@ still_begins name locks ws d f format lock others same there =
     (record { free = same Format format ∙ there.0.free; locks_are = same Locks lock ∙ there.0.locks_are }, still_there name ws d f others same there.1)
 
 -- all of them, beside `format`
-abbrev pub Opened : List ℕ → List ℕ → List ℕ → List ℕ → List ℕ → List ℕ → Written
-Opened around kind uuid revision properties current =
-    (Current, current) ∷ (Properties 0, properties) ∷ (Revision 0, revision) ∷ (Uuid, uuid) ∷ (Kind, kind) ∷ (RepositoryFormat, around) ∷ []
+abbrev pub Opened : Option ℕ → List ℕ → List ℕ → List ℕ → List ℕ → List ℕ → List ℕ → Written
+Opened shard around kind uuid revision properties current =
+    (Current, current) ∷ (Properties shard 0, properties) ∷ (Revision shard 0, revision) ∷ (Uuid, uuid) ∷ (Kind, kind) ∷ (RepositoryFormat, around) ∷ []
 
-module _ (locks : Option (List ℕ)) (format around kind uuid revision properties current : List ℕ) (count : count_in current ≡ Some 1) where
+module _ (locks : Option (List ℕ)) (shard : Option ℕ) (format around kind uuid revision properties current : List ℕ) (is_shard : shard ≡ shard_in (layout_in (Some format)) 0)
+    (count : count_in current ≡ Some 1) where
   abbrev pub TheFiles : Files
   TheFiles = record { format = Some format; uuid = uuid; current = current; revisions = (revision, properties) ∷ []; locks = locks }
 
   abbrev pub AllBut : Folder → Type 0
-  AllBut = Begins locks (Opened around kind uuid revision properties current)
+  AllBut = Begins locks (Opened shard around kind uuid revision properties current)
 
   pub opening_is : (d f : Folder) → SameBut Format d f → AllBut d → f Format ≡ Some format → HasFiles TheFiles f
   opening_is d f same there is =
       let l : f Locks ≡ locks = same Locks (λ e. cc) ∙ there.0.locks_are in
       let c : f Current ≡ Some current = same Current (λ e. cc) ∙ there.1.0 in
-      let p : f (Properties 0) ≡ Some properties = same (Properties 0) (λ e. cc) ∙ there.1.1.0 in
-      let r : f (Revision 0) ≡ Some revision = same (Revision 0) (λ e. cc) ∙ there.1.1.1.0 in
+      let at = layout_in (Some format) in
+      let p : f (properties_name at 0) ≡ Some properties = ap (λ (x : Option ℕ). f (Properties x 0)) (sym is_shard) ∙ same (Properties shard 0) (λ e. cc) ∙ there.1.1.0 in
+      let r : f (revision_name at 0) ≡ Some revision = ap (λ (x : Option ℕ). f (Revision x 0)) (sym is_shard) ∙ same (Revision shard 0) (λ e. cc) ∙ there.1.1.1.0 in
       let u : f Uuid ≡ Some uuid = same Uuid (λ e. cc) ∙ there.1.1.1.1.0 in
       closed f TheFiles 1 (ap (λ (x : Option (List ℕ)). count_in (text_of x)) c ∙ count)
       (λ i. record { format = is i; uuid = text_of (u i); current = text_of (c i); revisions = (text_of (r i), text_of (p i)) ∷ []; locks = l i })

@@ -3,3 +3,4 @@ pub mod Steps
 pub mod Joining
 pub mod Readings
 pub mod Beginning
+pub mod Copying

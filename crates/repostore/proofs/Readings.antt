@@ -1,8 +1,9 @@
 -- How reads go on.
 use Rattle.std.proofs.Common.{◌≡◌, ◌⊎◌, inl, inr, ⊎_elim, ℕ, Some, ◌∙◌, arith, le_refl}
 use Rattle.std.specs.Prelude.{◌≤◌}
-use Rattle.store_files.specs.{Folders.{Folder, IsSame, text_of}, Moments.Elapses, Stops.LeavesOnly, declared.name.FileName.TheVariants.{Current, Locks}}
+use Rattle.store_files.specs.{Folders.{Folder, IsSame, text_of}, Moments.Elapses, Stops.LeavesOnly, declared.name.FileName.TheVariants.{Current, Format, Locks}}
 use Rattle.store_files.specs.{declared.fault.StoreFault.StoreFault, declared.store.Store.Ghosts}
+use Rattle.fsfs_format.specs.Formats.{layout_in}
 use Rattle.repostore.specs.{Opening.OnlyReads, Current.count_in, Reading.{Faulty, HasFaultyRevision, IsFaulty, IfFaulty}}
 use Rattle.store_files.specs.declared.fault.StoreFault.TheVariants as store
 use Rattle.repostore.proofs.Steps.{goes_on}
@@ -17,7 +18,7 @@ faulty_gives store.Exists P Q gives is = absurd is
 
 -- a folder is faulty where the rest is that is read behind its first files
 pub rest_faulty : (faulty : Faulty) (f : Folder) (n : ℕ) → count_in (text_of (f Current)) ≡ Some n
-    → HasFaultyRevision faulty f n ⊎ faulty.locks (f Locks) → IsFaulty faulty f
+    → HasFaultyRevision faulty (layout_in (f Format)) f n ⊎ faulty.locks (f Locks) → IsFaulty faulty f
 rest_faulty faulty f n count (inl revision) = inr (inl (n, count, revision))
 rest_faulty faulty f n count (inr locks) = inr (inr locks)
 

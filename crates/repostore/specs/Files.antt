@@ -1,7 +1,15 @@
 -- The files that are reached from `current`, and what they stand for.
 use Rattle.std.specs.Prelude.{◌≡◌, ◌⊎◌, ℕ, zero, suc, List, [], ◌∷◌, ◌++◌, Option, Some, option_map}
-use Rattle.store_files.specs.{Folders.{Folder, text_of}, declared.name.FileName.TheVariants.{Format, Uuid, Current, Locks, Revision, Properties}}
+use Rattle.fsfs_format.specs.{Formats.{layout_in, shard_in}, declared.format.Layout.Layout}
+use Rattle.store_files.specs.{Folders.{Folder, text_of}, declared.name.FileName.FileName, declared.name.FileName.TheVariants.{Format, Uuid, Current, Locks, Revision, Properties}}
 use Rattle.repostore.specs.Current.{count_in}
+
+-- the names of the files of a revision, and of its properties, in a layout
+abbrev pub revision_name : Layout → ℕ → FileName
+revision_name layout n = Revision (shard_in layout n) n
+
+abbrev pub properties_name : Layout → ℕ → FileName
+properties_name layout n = Properties (shard_in layout n) n
 
 -- the file of a revision, and that of its properties
 abbrev pub RevisionFiles : Type 0
@@ -15,27 +23,27 @@ pub record Files : Type 0 where
   pub revisions : List RevisionFiles
   pub locks : Option (List ℕ)
 
-abbrev pub revision_files : Folder → ℕ → RevisionFiles
-revision_files f n = (text_of (f (Revision n)), text_of (f (Properties n)))
+abbrev pub revision_files : Layout → Folder → ℕ → RevisionFiles
+revision_files layout f n = (text_of (f (revision_name layout n)), text_of (f (properties_name layout n)))
 
 -- those of the revisions below a number; a file that is missing has no bytes
-abbrev pub revisions_below : Folder → ℕ → List RevisionFiles
-revisions_below f zero = []
-revisions_below f (suc n) = revisions_below f n ++ revision_files f n ∷ []
+abbrev pub revisions_below : Layout → Folder → ℕ → List RevisionFiles
+revisions_below layout f zero = []
+revisions_below layout f (suc n) = revisions_below layout f n ++ revision_files layout f n ∷ []
 
 -- the files that are reached where there are so many revisions
-abbrev pub reached : Folder → ℕ → Files
-reached f n = record {
+abbrev pub reached : Layout → Folder → ℕ → Files
+reached layout f n = record {
   format = f Format;
   uuid = text_of (f Uuid);
   current = text_of (f Current);
-  revisions = revisions_below f n;
+  revisions = revisions_below layout f n;
   locks = f Locks;
 }
 
--- the files that are reached from `current`, if it says how many there are
+-- the files that are reached from `current`, if it says how many there are, in the layout that `format` says
 abbrev pub files_in : Folder → Option Files
-files_in f = option_map (reached f) (count_in (text_of (f Current)))
+files_in f = option_map (reached (layout_in (f Format)) f) (count_in (text_of (f Current)))
 
 -- the folder has these files, whatever else
 abbrev pub HasFiles : Files → Folder → Type 0

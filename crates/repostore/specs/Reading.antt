@@ -1,5 +1,6 @@
 -- How the files of a repository are read.
 use Rattle.std.specs.Prelude.{◌≡◌, ◌⊎◌, ◌<◌, ℕ, List, [], ◌++◌, ◌∷◌, Option, None, Some, Result, Ok, Err}
+use Rattle.fsfs_format.specs.{Formats.layout_in, declared.format.Layout.Layout}
 use Rattle.store_files.specs.{Folders.{Folder, text_of}, declared.name.FileName.TheVariants.{Format, Uuid, Current, Locks}}
 use Rattle.store_files.specs.declared.fault.StoreFault.{StoreFault}
 use Rattle.fsfs_lines.specs.declared.fault.FileFault.{FileFault}
@@ -25,12 +26,12 @@ abbrev pub with_read_locks : Files → Option (List ℕ) → Files
 with_read_locks files locks = record files { locks = locks }
 
 -- what is read behind so many revisions
-abbrev pub read_below : Folder → ℕ → Files
-read_below f n = record {
+abbrev pub read_below : Layout → Folder → ℕ → Files
+read_below layout f n = record {
   format = f Format;
   uuid = text_of (f Uuid);
   current = text_of (f Current);
-  revisions = revisions_below f n;
+  revisions = revisions_below layout f n;
   locks = None;
 }
 
@@ -42,15 +43,16 @@ pub record HasTaken {R : Type 0} (took : R → Files → Type 0) (f : Folder)
   pub taken : took reader files
 
 -- one of so many revisions is faulty
-abbrev pub HasFaultyRevision : Faulty → Folder → ℕ → Type 0
-HasFaultyRevision faulty f m =
-    (n : ℕ) × (n < m) × faulty.revision (revisions_below f n) (revision_files f n)
+abbrev pub HasFaultyRevision : Faulty → Layout → Folder → ℕ → Type 0
+HasFaultyRevision faulty layout f m =
+    (n : ℕ) × (n < m) × faulty.revision (revisions_below layout f n) (revision_files layout f n)
 
 -- a folder is faulty where a reader finds one of the files so that are reached
 abbrev pub IsFaulty : Faulty → Folder → Type 0
 IsFaulty faulty f =
     faulty.head (f Format) (text_of (f Uuid)) (text_of (f Current))
-    ⊎ ((m : ℕ) × (count_in (text_of (f Current)) ≡ Some m) × HasFaultyRevision faulty f m)
+    ⊎ ((m : ℕ) × (count_in (text_of (f Current)) ≡ Some m)
+    × HasFaultyRevision faulty (layout_in (f Format)) f m)
     ⊎ faulty.locks (f Locks)
 
 -- where the fault is that of a file, this holds; want of memory is no fault of a file

@@ -1,16 +1,17 @@
 -- How files are saved, call by call.
 use Rattle.std.specs.Prelude.{◌≡◌, ◌⊎◌, ◌↔◌, ◌<◌, ℕ, List, Some, true, false, length, Result, OnOk, IsErr, IsErrOf}
 use Rattle.store_files.specs.{Folders.{Folder, IsSame, SameBut, Swapped}, Moments.{Elapses, HasRisen}, Stops.LeavesOnly, declared.name.FileName.FileName}
-use Rattle.store_files.specs.{declared.name.FileName.TheVariants.{Revision, Properties}, declared.store.Store.Ghosts, declared.fault.StoreFault.StoreFault}
+use Rattle.store_files.specs.{declared.store.Store.Ghosts, declared.fault.StoreFault.StoreFault}
 use Rattle.store_files.specs.declared.fault.StoreFault.TheVariants.{Device, Halted, NoMemory}
-use Rattle.repostore.specs.{Files.{Files, HasEither, HasFiles}, declared.saves.Saves.Saves}
+use Rattle.fsfs_format.specs.Formats.{layout_in}
+use Rattle.repostore.specs.{Files.{Files, HasEither, HasFiles, properties_name, revision_name}, declared.saves.Saves.Saves}
 
 -- the folder has these files, and those of a revision that is not reached yet
 pub record HasNext (files : Files) (n : ℕ) (revision properties : List ℕ)
     (f : Folder) : Type 0 where
   pub files_are : HasFiles files f
-  pub revision_is : f (Revision n) ≡ Some revision
-  pub properties_are : f (Properties n) ≡ Some properties
+  pub revision_is : f (revision_name (layout_in files.format) n) ≡ Some revision
+  pub properties_are : f (properties_name (layout_in files.format) n) ≡ Some properties
 
 module _ {S : Type 0} (s : Ghosts S) where
   -- what is read has P, and so has what a stop leaves now
@@ -23,6 +24,7 @@ module _ {S : Type 0} (s : Ghosts S) where
   pub record IsSaved (saves : Saves S) (files : Files) : Type 0 where
     pub stands : Stands saves.store (HasFiles files)
     pub count : saves.count ≡ length files.revisions
+    pub layout : saves.layout ≡ layout_in files.format
     pub goes_on : saves.is_halted ≡ false
 
   -- a stop since the start leaves what has P, and now there stands what has Q

@@ -3,6 +3,7 @@ ghost use Rattle.std.specs.Prelude.{◌≡◌, ◌↔◌, ℕ, List, Option, Som
 ghost use Rattle.store_files.specs.{Folders.IsSame, Moments.{HasCause, HasRisen}};
 ghost use Rattle.repostore.specs.{Current.count_in, Files.HasFiles, Creating.{Creates, opening_files, IsFreeWith}, Saving.Stands};
 
+use fsfs_format::layout_in;
 use std::alloc::Global;
 use store_files::{FileName, Store, StoreFault};
 
@@ -57,11 +58,12 @@ fn write_opening<S: Store>(store: &mut S, opening: Opening<'_>) -> Result<(), St
         → Creates S.Store opening.entry locks store.old store.new result }
     ensures cause { HasCause (S.failed store.old) (S.failed store.new) result }
 {
+    let shard = layout_in(Some(opening.format)).shard(0);
     store.write_new(FileName::RepositoryFormat, opening.repository_format)?;
     store.write_new(FileName::Kind, opening.kind)?;
     store.write_new(FileName::Uuid, opening.uuid)?;
-    store.write_new(FileName::Revision(0), opening.revision)?;
-    store.write_new(FileName::Properties(0), opening.properties)?;
+    store.write_new(FileName::Revision(shard, 0), opening.revision)?;
+    store.write_new(FileName::Properties(shard, 0), opening.properties)?;
     store.write_new(FileName::Current, opening.current)?;
     match store.replace(FileName::Format, opening.format) {
         Ok(()) => Ok(()),

@@ -2,10 +2,12 @@
 ghost use Rattle.std.specs.Prelude.{◌≡◌, ◌⊎◌, false, Some, IfOk, IfErr, OnOk};
 ghost use Rattle.store_files.specs.{Folders.{bytes_of, Folder, IsSame, text_of}, Moments.HasCause};
 ghost use Rattle.repostore.specs.{Current.count_in, Files.{Files, HasFiles, revision_files, reached}, Reading.{Faulty, HasTaken, IsFaulty, HasFaultyRevision}};
+ghost use Rattle.fsfs_format.specs.Formats.{layout_in};
 ghost use Rattle.repostore.specs.Reading.{IfFindsFaulty, IfStoreFindsFaulty, with_head, with_one_more, with_read_locks, read_below};
 ghost use Rattle.repostore.specs.{Opening.{IsUnopened, OnlyReads, Reads}, Saving.IsSaved};
 
 use crate::saves::Saves;
+use fsfs_format::{Layout, layout_in};
 use fsfs_lines::FileFault;
 use std::alloc::Global;
 use store_files::{FileName, Store, StoreFault};
@@ -67,10 +69,11 @@ pub fn open<S: Store, R: Reader>(alloc: Global, store: S) -> Result<(Saves<S>, R
 {
     let mut store = store;
     match read_all(alloc, &mut store) {
-        Ok((reader, count)) => Ok((
+        Ok((reader, count, layout)) => Ok((
             Saves {
                 store,
                 count,
+                layout,
                 is_halted: false,
             },
             reader,
@@ -80,18 +83,23 @@ pub fn open<S: Store, R: Reader>(alloc: Global, store: S) -> Result<(Saves<S>, R
 }
 
 /// Reads all files, and answers how many revisions there are.
-fn read_all<S: Store, R: Reader>(alloc: Global, store: &mut S) -> Result<(R, u32), StoreFault>
+pub fn read_all<S: Store, R: Reader>(
+    alloc: Global,
+    store: &mut S,
+) -> Result<(R, u32, Layout), StoreFault>
     ensures reads { Reads S.Store store.old store.new result }
     ensures found { S.is_honest store.new → IfOk result (λ read. HasTaken R.took
         (S.holds store.old) read.0) }
     ensures count { S.is_honest store.new → IfOk result (λ read. count_in
         (text_of (S.holds store.old FileName.Current)) ≡ Some read.1) }
+    ensures layout { S.is_honest store.new → IfOk result (λ read. read.2
+        ≡ layout_in (S.holds store.old FileName.Format)) }
     ensures faulty { S.is_honest store.new → IfStoreFindsFaulty result (IsFaulty R.faulty
         (S.holds store.old)) }
 {
-    let (mut reader, count) = read_head(alloc, store)?;
-    match read_rest(alloc, store, &mut reader, count) {
-        Ok(()) => Ok((reader, count)),
+    let (mut reader, count, layout) = read_head(alloc, store)?;
+    match read_rest(alloc, store, &mut reader, layout, count) {
+        Ok(()) => Ok((reader, count, layout)),
         Err(fault) => {
             std::mem::drop(reader);
             Err(fault)
@@ -100,12 +108,17 @@ fn read_all<S: Store, R: Reader>(alloc: Global, store: &mut S) -> Result<(R, u32
 }
 
 /// Reads the files that say what is there, and begins with them.
-fn read_head<S: Store, R: Reader>(alloc: Global, store: &mut S) -> Result<(R, u32), StoreFault>
+fn read_head<S: Store, R: Reader>(
+    alloc: Global,
+    store: &mut S,
+) -> Result<(R, u32, Layout), StoreFault>
     ensures reads { Reads S.Store store.old store.new result }
     ensures took { S.is_honest store.new → IfOk result (λ begun. R.took begun.0
-        (read_below (S.holds store.old) 0)) }
+        (read_below begun.2 (S.holds store.old) 0)) }
     ensures count { S.is_honest store.new → IfOk result (λ begun. count_in
         (text_of (S.holds store.old FileName.Current)) ≡ Some begun.1) }
+    ensures layout { S.is_honest store.new → IfOk result (λ begun. begun.2
+        ≡ layout_in (S.holds store.old FileName.Format)) }
     ensures faulty { S.is_honest store.new → IfStoreFindsFaulty result (R.faulty.head
         (S.holds store.old FileName.Format) (text_of (S.holds store.old FileName.Uuid))
         (text_of (S.holds store.old FileName.Current))) }
@@ -113,7 +126,19 @@ fn read_head<S: Store, R: Reader>(alloc: Global, store: &mut S) -> Result<(R, u3
     let format = store.read(alloc, FileName::Format)?;
     let uuid = read_text(alloc, store, FileName::Uuid)?;
     let current = read_text(alloc, store, FileName::Current)?;
-    Ok(R::begin(alloc, format, uuid, current)?)
+    let layout = layout_of(&format);
+    let (reader, count) = R::begin(alloc, format, uuid, current)?;
+    Ok((reader, count, layout))
+}
+
+/// Gives the layout that the file `format` says.
+pub(crate) fn layout_of(format: &Option<Vec<u8>>) -> Layout
+    ensures { result ≡ layout_in (bytes_of format.now) }
+{
+    match format {
+        Some(bytes) => layout_in(Some(bytes.as_slice())),
+        None => layout_in(None),
+    }
 }
 
 /// Reads so many revisions, and the locks.
@@ -121,21 +146,26 @@ fn read_rest<S: Store, R: Reader>(
     alloc: Global,
     store: &mut S,
     reader: &mut R,
+    layout: Layout,
     count: u32,
 ) -> Result<(), StoreFault>
     ensures reads { Reads S.Store store.old store.new result }
-    ensures took { S.is_honest store.new → R.took reader.old (read_below (S.holds store.old) 0)
-        → OnOk result (R.took reader.new (reached (S.holds store.old) count)) }
-    ensures faulty { S.is_honest store.new → R.took reader.old (read_below (S.holds store.old) 0)
-        → IfStoreFindsFaulty result (HasFaultyRevision R.faulty (S.holds store.old) count
+    ensures took { S.is_honest store.new → R.took reader.old (read_below layout (S.holds store.old) 0)
+        → OnOk result (R.took reader.new (reached layout (S.holds store.old) count)) }
+    ensures faulty { S.is_honest store.new → R.took reader.old (read_below layout (S.holds store.old) 0)
+        → IfStoreFindsFaulty result (HasFaultyRevision R.faulty layout (S.holds store.old) count
         ⊎ R.faulty.locks (S.holds store.old FileName.Locks)) }
 {
-    read_revisions(alloc, store, reader, count)?;
+    read_revisions(alloc, store, reader, layout, count)?;
     read_locks(alloc, store, reader)
 }
 
 /// Reads the bytes of a file; one that is missing has none.
-fn read_text<S: Store>(alloc: Global, store: &mut S, name: FileName) -> Result<Vec<u8>, StoreFault>
+pub(crate) fn read_text<S: Store>(
+    alloc: Global,
+    store: &mut S,
+    name: FileName,
+) -> Result<Vec<u8>, StoreFault>
     ensures reads { OnlyReads S.Store store.old store.new }
     ensures found { S.is_honest store.new → IfOk result (λ found. found.items
         ≡ text_of (S.holds store.old name)) }
@@ -152,16 +182,17 @@ fn read_revisions<S: Store, R: Reader>(
     alloc: Global,
     store: &mut S,
     reader: &mut R,
+    layout: Layout,
     count: u32,
 ) -> Result<(), StoreFault>
     ensures reads { Reads S.Store store.old store.new result }
-    ensures took { S.is_honest store.new → R.took reader.old (read_below (S.holds store.old) 0)
-        → OnOk result (R.took reader.new (read_below (S.holds store.old) count)) }
-    ensures faulty { S.is_honest store.new → R.took reader.old (read_below (S.holds store.old) 0)
-        → IfStoreFindsFaulty result (HasFaultyRevision R.faulty (S.holds store.old) count) }
+    ensures took { S.is_honest store.new → R.took reader.old (read_below layout (S.holds store.old) 0)
+        → OnOk result (R.took reader.new (read_below layout (S.holds store.old) count)) }
+    ensures faulty { S.is_honest store.new → R.took reader.old (read_below layout (S.holds store.old) 0)
+        → IfStoreFindsFaulty result (HasFaultyRevision R.faulty layout (S.holds store.old) count) }
 {
     for number in 0..count {
-        read_revision(alloc, store, reader, number)?;
+        read_revision(alloc, store, reader, layout, number)?;
     }
     Ok(())
 }
@@ -171,17 +202,19 @@ fn read_revision<S: Store, R: Reader>(
     alloc: Global,
     store: &mut S,
     reader: &mut R,
+    layout: Layout,
     number: u32,
 ) -> Result<(), StoreFault>
     ensures reads { Reads S.Store store.old store.new result }
     ensures took { S.is_honest store.new → OnOk result ((files : Files) → R.took reader.old files
-        → R.took reader.new (with_one_more files (revision_files (S.holds store.old) number))) }
+        → R.took reader.new (with_one_more files (revision_files layout (S.holds store.old) number))) }
     ensures faulty { S.is_honest store.new → (files : Files) → R.took reader.old files
         → IfStoreFindsFaulty result (R.faulty.revision files.revisions
-        (revision_files (S.holds store.old) number)) }
+        (revision_files layout (S.holds store.old) number)) }
 {
-    let revision = read_text(alloc, store, FileName::Revision(number))?;
-    let properties = read_text(alloc, store, FileName::Properties(number))?;
+    let shard = layout.shard(number);
+    let revision = read_text(alloc, store, FileName::Revision(shard, number))?;
+    let properties = read_text(alloc, store, FileName::Properties(shard, number))?;
     Ok(reader.take_revision(revision, properties)?)
 }
 

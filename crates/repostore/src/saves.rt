@@ -4,13 +4,15 @@ ghost use Rattle.store_files.specs.{Faults.told_of, Moments.HasCause};
 ghost use Rattle.repostore.specs.{Current.count_in, Files.{Files, with_revision, with_locks, with_properties, HasFiles}};
 ghost use Rattle.repostore.specs.Saving.{IsSaved, SaveMakes, SaveEnds, Going, Replaces, IsWritten, IsUnchanged, HasNext};
 
+use fsfs_format::Layout;
 use store_files::{FileName, ReplaceFault, Store, StoreFault};
 
-/// The files of a repository that are saved: how many revisions they have, and whether a replacement was left
-/// in doubt, since when nothing is written any more.
+/// The files of a repository that are saved: how many revisions they have, where these are, and whether a
+/// replacement was left in doubt, since when nothing is written any more.
 pub struct Saves<S: Store> {
     pub(crate) store: S,
     pub(crate) count: u32,
+    pub(crate) layout: Layout,
     pub(crate) is_halted: bool,
 }
 
@@ -19,6 +21,7 @@ impl<S: Store> Drop for Saves<S> {
         let Saves {
             store: _,
             count: _,
+            layout: _,
             is_halted: _,
         } = self;
     }
@@ -57,14 +60,17 @@ impl<S: Store> Saves<S> {
             (HasNext files self.old.count revision.now properties.now)) }
         ensures honest { S.is_honest self.old.store ↔ S.is_honest self.new.store }
         ensures count { self.new.count ≡ self.old.count }
+        ensures layout { self.new.layout ≡ self.old.layout }
         ensures goes_on { self.new.is_halted ≡ self.old.is_halted }
         ensures doubt { S.in_doubt self.new.store ≡ S.in_doubt self.old.store }
         ensures cause { HasCause (S.failed self.old.store) (S.failed self.new.store) result }
     {
         let number = self.count;
-        self.store.write_new(FileName::Revision(number), revision)?;
+        let shard = self.layout.shard(number);
         self.store
-            .write_new(FileName::Properties(number), properties)
+            .write_new(FileName::Revision(shard, number), revision)?;
+        self.store
+            .write_new(FileName::Properties(shard, number), properties)
     }
 
     /// Replaces a file. Where that leaves it in doubt, no save is made any more.
@@ -76,6 +82,7 @@ impl<S: Store> Saves<S> {
         ensures refused { S.is_honest self.old.store → IsErr result → self.new.is_halted ≡ false
             → IsUnchanged S.Store self.old.store self.new.store }
         ensures count { self.new.count ≡ self.old.count }
+        ensures layout { self.new.layout ≡ self.old.layout }
         ensures honest { S.is_honest self.old.store ↔ S.is_honest self.new.store }
         ensures halts { (self.new.is_halted ≡ true)
             ↔ ((self.old.is_halted ≡ true)
@@ -96,6 +103,7 @@ impl<S: Store> Saves<S> {
         ensures told { result ≡ told_of fault }
         ensures store { self.new.store ≡ self.old.store }
         ensures count { self.new.count ≡ self.old.count }
+        ensures layout { self.new.layout ≡ self.old.layout }
         ensures honest { S.is_honest self.old.store ↔ S.is_honest self.new.store }
         ensures halts { (self.new.is_halted ≡ true)
             ↔ ((self.old.is_halted ≡ true) ⊎ (fault ≡ ReplaceFault.InDoubt)) }
@@ -129,7 +137,8 @@ impl<S: Store> Saves<S> {
         if self.is_halted {
             return Err(StoreFault::Halted);
         }
-        self.publish(FileName::Properties(revision), properties)
+        let shard = self.layout.shard(revision);
+        self.publish(FileName::Properties(shard, revision), properties)
     }
 
     /// Says whether a replacement was left in doubt, so that nothing is written any more.
@@ -153,6 +162,7 @@ impl<S: Store> Saves<S> {
         let Saves {
             store,
             count: _,
+            layout: _,
             is_halted: _,
         } = self;
         store

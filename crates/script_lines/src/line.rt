@@ -1,5 +1,5 @@
 //! The lines of a script.
-ghost use Rattle.std.specs.Prelude.{◌≤◌};
+ghost use Rattle.std.specs.Prelude.{◌≡◌, ◌⊎◌, ◌≤◌};
 ghost use Rattle.dates.specs.declared.TheConstants.{LAST_MOMENT};
 
 use crate::fault::LineFault;
@@ -36,6 +36,25 @@ pub enum Place {
     Memory,
     /// In the files of this folder.
     Folder(String),
+}
+
+/// Which format the files of a new repository are of.
+#[derive(Clone, Copy)]
+pub enum NewFormat {
+    Two,
+    Three,
+}
+
+impl NewFormat {
+    /// Gives the number of the format.
+    pub fn number(self) -> u32
+        ensures { (result ≡ 2) ⊎ (result ≡ 3) }
+    {
+        match self {
+            NewFormat::Two => 2,
+            NewFormat::Three => 3,
+        }
+    }
 }
 
 /// How a store fails: how many calls that write it passes before the one that fails, and what that leaves.
@@ -75,6 +94,8 @@ pub enum Line {
     User(NewUser),
     /// The repository of the hub that is asked for is in files.
     Place(Place),
+    /// The repository of the hub that is asked for is of this format, where it is new.
+    Format(NewFormat),
     /// The store that is opened next fails once.
     Fuse(Failing),
     /// The hub is dropped, and its repository opened again.
@@ -116,6 +137,8 @@ impl Line {
             ["folder", path] if !path.is_empty() => {
                 Ok(Line::Place(Place::Folder(String::from_str(alloc, path)?)))
             }
+            ["format", "2"] => Ok(Line::Format(NewFormat::Two)),
+            ["format", "3"] => Ok(Line::Format(NewFormat::Three)),
             ["fuse", call, left] => Ok(Line::Fuse(parse_failing(call, left)?)),
             ["reopen"] => Ok(Line::Reopen),
             ["file", name] => Ok(Line::File(parse_named(alloc, name)?)),

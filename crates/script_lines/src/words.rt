@@ -88,13 +88,23 @@ fn parse_revision(word: &str) -> Option<u32> {
     u32::try_from(parse_number(word)?).ok()
 }
 
-/// Gives the file of a repository that has this name in its folder.
-pub fn parse_file(word: &str) -> Option<FileName> {
-    if let Some(number) = word.strip_prefix("revs/") {
-        return Some(FileName::Revision(parse_revision(number)?));
+/// Reads the shard that a file is in, if it is in one, and the number of its revision.
+fn parse_place(word: &str) -> Option<(Option<u32>, u32)> {
+    match word.split_once('/') {
+        Some((shard, number)) => Some((Some(parse_revision(shard)?), parse_revision(number)?)),
+        None => Some((None, parse_revision(word)?)),
     }
-    if let Some(number) = word.strip_prefix("revprops/") {
-        return Some(FileName::Properties(parse_revision(number)?));
+}
+
+/// Gives the file of a repository that has this name in its folder. Which shard a revision is in is not judged.
+pub fn parse_file(word: &str) -> Option<FileName> {
+    if let Some(place) = word.strip_prefix("revs/") {
+        let (shard, number) = parse_place(place)?;
+        return Some(FileName::Revision(shard, number));
+    }
+    if let Some(place) = word.strip_prefix("revprops/") {
+        let (shard, number) = parse_place(place)?;
+        return Some(FileName::Properties(shard, number));
     }
     match word {
         "format" => Some(FileName::Format),

@@ -2,15 +2,13 @@
 ghost use Rattle.std.specs.Prelude.{IfOk};
 ghost use Rattle.repo_api.specs.{Soundness.AreSound, Transactions.MayCommit};
 
-use crate::seats::{Access, SoundTrees};
+use crate::files::{DATE, bytes};
+use crate::seats::SoundTrees;
 use access::{Committed, RepoAccess};
 use byte_string::ByteString;
-use published::Naming;
 use repo_api::{ChangeFault, CommitAsk, LockTokens, NodeKind, Repository};
 use std::alloc::{AllocError, Global};
-use std::sync::Wait;
-use store_access::Filed;
-use store_files::Store;
+use std::process::Abort;
 use svnpath::Path;
 
 /// Makes a transaction that begins at the repository that is seen.
@@ -27,56 +25,44 @@ fn begin<R: Repository>(alloc: Global, view: R) -> Result<R::Txn, AllocError>
     }
 }
 
-/// Makes what an empty commit asks for.
-pub(crate) fn empty_ask(alloc: Global) -> Result<CommitAsk, AllocError> {
-    let date = ByteString::from_slice(alloc, b"1970-01-01T00:00:00.000000Z")?;
-    Ok(CommitAsk {
-        date,
+/// Makes what a commit with this message asks for.
+pub(crate) fn ask_for(rt: &impl Abort, alloc: Global, message: &[u8]) -> CommitAsk {
+    CommitAsk {
+        date: bytes(rt, alloc, DATE),
         author: None,
-        message: ByteString::new(Vec::new(alloc)),
+        message: bytes(rt, alloc, message),
         properties: None,
         tokens: LockTokens::new(alloc),
         keep_locks: false,
-    })
+    }
 }
 
 /// Commits what a look shows, unchanged.
-fn commit_seen<A: RepoAccess<View = V>, V: SoundTrees>(
+pub(crate) fn commit_of<A: RepoAccess<View = V>, V: SoundTrees>(
+    rt: &impl Abort,
     alloc: Global,
     access: &mut A,
     ask: CommitAsk,
 ) -> Result<Committed, ChangeFault> {
-    let view = access.look()?;
+    let view = access.look().expect(rt, "a look");
     view.trees_are_sound();
-    let txn = begin(alloc, view)?;
+    let txn = begin(alloc, view).expect(rt, "a transaction");
     access.commit(ask, txn)
 }
 
-/// Gives the youngest revision that a look has.
-fn youngest_seen<A: RepoAccess>(access: &mut A) -> Result<u64, AllocError> {
-    Ok(access.look()?.youngest())
-}
-
-/// Makes an empty commit at a seat.
-pub(crate) fn commit_of<F: SoundTrees, S: Store, J: Naming, R: Wait>(
+/// Makes an empty commit that hands no lock in, and answers the number of its revision.
+pub(crate) fn commit<A: RepoAccess<View = V>, V: SoundTrees>(
+    rt: &impl Abort,
     alloc: Global,
-    seat: &mut Access<'_, F, S, J, R>,
-    ask: CommitAsk,
-) -> Result<Committed, ChangeFault> {
-    commit_seen::<Access<'_, F, S, J, R>, F>(alloc, seat, ask)
-}
-
-/// Makes an empty commit at a seat that hands no lock in, and answers the number of its revision.
-pub(crate) fn commit<F: SoundTrees, S: Store, J: Naming, R: Wait>(
-    alloc: Global,
-    seat: &mut Access<'_, F, S, J, R>,
+    access: &mut A,
 ) -> Result<u64, ChangeFault> {
-    Ok(commit_of(alloc, seat, empty_ask(alloc)?)?.revision)
+    match commit_of(rt, alloc, access, ask_for(rt, alloc, b"")) {
+        Ok(committed) => Ok(committed.revision),
+        Err(fault) => Err(fault),
+    }
 }
 
-/// Gives the youngest revision that a seat's look has.
-pub(crate) fn youngest<F: Filed, S: Store, J: Naming, R: Wait>(
-    seat: &mut Access<'_, F, S, J, R>,
-) -> Result<u64, AllocError> {
-    youngest_seen(seat)
+/// Gives the youngest revision that a look has.
+pub(crate) fn youngest<A: RepoAccess>(rt: &impl Abort, access: &mut A) -> u64 {
+    access.look().expect(rt, "a look").youngest()
 }

@@ -10,6 +10,8 @@ mod halts;
 #[cfg(test)]
 mod looks;
 #[cfg(test)]
+mod plays;
+#[cfg(test)]
 mod properties;
 #[cfg(test)]
 mod releases;

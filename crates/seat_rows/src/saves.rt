@@ -1,29 +1,25 @@
 //! A look that is made while another seat's commit is being saved.
 ghost use Rattle.std.specs.Prelude.{◌≡◌};
 
-use crate::commits::{commit, youngest};
-use crate::seats::{Access, new_files, opened, two_seats};
+use crate::commits::youngest;
+use crate::files::new_files;
+use crate::plays::{Act, Marks, act_at};
+use crate::seats::{AtRest, opened, two_seats};
+use access::RepoAccess;
+use filed_opening::FolderRepository;
 use filed_world::FiledWorld;
 use published::{Naming, NewHistory};
-use std::alloc::{AllocError, Global};
+use std::alloc::Global;
 use std::marker::Brand;
+use std::process::Abort;
 use std::sync::atomic::{AtomicBool, Ordering};
 use std::sync::{Arc, Wait};
-use std::test::Fail;
 use std::thread;
 use std::thread::{Threads, join};
-use store_access::Filed;
 use store_files::{FileName, MemoryStore, ReplaceFault, Store, StoreFault};
 
 /// How often a mark is looked at, at most: for some ten seconds.
 const MOST_TURNS: u64 = 30_000_000;
-
-/// Whether a replacement has begun, and whether the other seat has looked since.
-#[derive(Drop)]
-struct Marks {
-    begun: AtomicBool,
-    looked: AtomicBool,
-}
 
 /// Waits until a mark is set, for so many turns at most; whether it is.
 fn wait_for(mark: &AtomicBool) -> bool {
@@ -88,76 +84,63 @@ impl<S: Store> Store for WaitingStore<S> {
     }
 }
 
+impl<S: AtRest> AtRest for WaitingStore<S> {
+    fn rests(&self) {
+        self.inner.rests();
+    }
+}
+
 /// Gives the youngest revision that a look has while a commit is being saved; none where no save begins.
-fn youngest_in_save<F: Filed, S: Store, J: Naming, R: Wait>(
-    seat: &mut Access<'_, F, S, J, R>,
+pub(crate) fn youngest_in_save<A: RepoAccess>(
+    rt: &impl Abort,
+    access: &mut A,
     marks: &Marks,
-) -> Result<Option<u64>, AllocError> {
+) -> Option<u64> {
     let is_saved = wait_for(&marks.begun);
-    let number = youngest(seat)?;
+    let number = youngest(rt, access);
     marks.looked.store(true, Ordering::SeqCst);
-    Ok(is_saved.then_some(number))
+    is_saved.then_some(number)
 }
 
-/// A seat at a repository in files whose replacements wait for a look.
-type SavedAccess<'r, J, R> = Access<'r, FiledWorld, WaitingStore<MemoryStore>, J, R>;
-
-/// Gives the youngest revisions that one seat sees while and after the other commits.
-fn seen_beside<'r, J, R>(
-    rt: &'r R,
-    alloc: Global,
-    seats: (SavedAccess<'r, J, R>, SavedAccess<'r, J, R>),
-    marks: &Marks,
-) -> Result<(Option<u64>, u64), Fail>
-where
-    J: Naming + Send + Sync + 'static,
-    R: Threads + Wait + Sync,
-{
-    let (mut one, mut other) = seats;
-    let (_, seen) = join(
-        rt,
-        || commit(alloc, &mut one),
-        || youngest_in_save(&mut other, marks),
-    );
-    Ok((seen?, youngest(&mut other)?))
-}
-
-/// Looks beside a commit that is saved in files in memory.
-fn look_in_memory<J, R>(
+/// Gives the youngest revisions that one seat sees while and after the other commits, in files whose replacements wait so.
+fn look_beside<S, J, R>(
     rt: &R,
     alloc: Global,
+    stored: FolderRepository<WaitingStore<S>>,
+    marks: &Marks,
     history: NewHistory,
-) -> Result<(Option<u64>, u64), Fail>
+) -> (Option<u64>, Option<u64>)
 where
+    S: Store + Send + Sync + 'static,
     J: Naming + Send + Sync + 'static,
-    R: Threads + Wait + Sync,
+    R: Abort + Threads + Wait + Sync,
     requires { history.seen.book ≡ J.book }
 {
-    let marks = Arc::new(
-        alloc,
-        Marks {
-            begun: AtomicBool::new(false),
-            looked: AtomicBool::new(false),
-        },
-    )?;
-    let files = new_files(alloc)?;
-    files.is_at_rest();
-    let store = WaitingStore {
-        inner: files,
-        marks: Arc::try_clone(&marks)?,
-    };
-    let stored = opened(alloc, store)?;
-    seen_beside(
+    let (mut one, mut other) = two_seats::<FiledWorld, WaitingStore<S>, J, R>(
+        rt, alloc, stored, history,
+    );
+    let (_, seen) = join(
         rt,
-        alloc,
-        two_seats::<FiledWorld, WaitingStore<MemoryStore>, J, R>(rt, alloc, stored, history)?,
-        &marks,
-    )
+        || act_at(rt, alloc, &mut one, Act::Commit, marks),
+        || act_at(rt, alloc, &mut other, Act::LookInSave, marks),
+    );
+    (seen, act_at(rt, alloc, &mut other, Act::Look, marks))
 }
 
 #[test]
-fn a_look_waits_for_no_save(rt: HostRuntime) -> Result<(), Fail> {
-    let seen = look_in_memory::<Brand, HostRuntime>(&rt, rt.alloc(), NewHistory::new())?;
-    assert!(rt; seen == (Some(0), 1));
-    Ok(())
+fn a_look_waits_for_no_save(rt: HostRuntime) {
+    let alloc = rt.alloc();
+    let marks = Arc::new(alloc, Marks::new()).expect(&rt, "memory");
+    let store = WaitingStore {
+        inner: new_files(&rt, alloc),
+        marks: Arc::try_clone(&marks).expect(&rt, "memory"),
+    };
+    let seen = look_beside::<MemoryStore, Brand, HostRuntime>(
+        &rt,
+        alloc,
+        opened(&rt, alloc, store),
+        &marks,
+        NewHistory::new(),
+    );
+    assert!(rt; seen == (Some(0), Some(1)));
 }

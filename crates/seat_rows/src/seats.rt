@@ -1,19 +1,18 @@
 //! A repository in files in memory that two seats share.
-ghost use Rattle.std.specs.Prelude.{◌≡◌, IfOk};
+ghost use Rattle.std.specs.Prelude.{◌≡◌};
 ghost use Rattle.store_files.specs.Folders.{Folder, IsSame};
-ghost use Rattle.filed_world.specs.Files.{filed_content};
 ghost use Rattle.repo_api.specs.Soundness.{AreSound};
 
 use filed_archive::{FiledArchive, ServedRepo, ServedSeat, share};
-use filed_opening::{FolderRepository, create, open, opened_trees_are_sound};
+use filed_opening::{FolderRepository, open, opened_trees_are_sound};
 use filed_world::FiledWorld;
 use published::{Naming, NewHistory, Published, Setting, Shown};
 use sharedrepo::SeatAccess;
-use std::alloc::{AllocError, Global};
+use std::alloc::Global;
+use std::process::Abort;
 use std::sync::{Arc, Wait};
-use std::test::Fail;
 use store_access::{Filed, StoredRepository};
-use store_files::{MemoryStore, Store};
+use store_files::{FuseStore, MemoryStore, Store};
 
 /// A repository that is shared, as one seat reaches it.
 pub(crate) type Access<'r, F, S, J, R> = SeatAccess<
@@ -38,24 +37,31 @@ impl SoundTrees for FiledWorld {
     }
 }
 
-/// Makes the files of a new repository.
-pub(crate) fn new_files(alloc: Global) -> Result<MemoryStore, Fail> {
-    let mut store = MemoryStore::new(alloc);
-    create(alloc, &mut store, 1, 0)?;
-    Ok(store)
+/// A store of which a stop that comes now leaves what a read gives.
+pub(crate) trait AtRest: Store {
+    /// Proves that; it does nothing else.
+    fn rests(&self)
+        ensures { (f : Folder) → Self.may_leave self.now f → IsSame (Self.holds self.now) f };
+}
+
+impl AtRest for MemoryStore {
+    fn rests(&self) {
+        self.is_at_rest();
+    }
+}
+
+impl<S: AtRest> AtRest for FuseStore<S> {
+    fn rests(&self) {
+        self.inner().rests();
+    }
 }
 
 /// Opens the repository in these files.
-pub(crate) fn opened<S: Store>(alloc: Global, store: S) -> Result<FolderRepository<S>, Fail>
-    requires { S.is_honest store → (f : Folder) → S.may_leave store f → IsSame (S.holds store) f }
-    ensures { IfOk result (λ stored. AreSound (filed_content stored.repository).revisions) }
-{
+pub(crate) fn opened<S: AtRest>(rt: &impl Abort, alloc: Global, store: S) -> FolderRepository<S> {
+    store.rests();
     match open(alloc, store) {
-        Ok(stored) => {
-            opened_trees_are_sound(stored.repository());
-            Ok(stored)
-        }
-        Err(unopened) => Err(Fail::from(unopened.fault)),
+        Ok(stored) => stored,
+        Err(_) => panic!(rt; "the repository is not opened"),
     }
 }
 
@@ -93,60 +99,58 @@ impl<'r, F: Filed, S: Store, J: Naming, R: Wait> Place<'r, F, S, J, R> {
 }
 
 /// Gives a seat its repository.
-fn placed<'r, F: Filed, S: Store, J: Naming, R: Wait>(
+fn placed<'r, F: Filed, S: Store, J: Naming, R: Abort + Wait>(
     rt: &'r R,
     repository: &Arc<ServedRepo<F, S, J>>,
     seat: ServedSeat<F, J>,
-) -> Result<Place<'r, F, S, J, R>, AllocError> {
-    Ok(Place {
-        repository: Arc::try_clone(repository)?,
+) -> Place<'r, F, S, J, R> {
+    Place {
+        repository: Arc::try_clone(repository).expect(rt, "memory"),
         seat,
         rt,
-    })
+    }
 }
 
 /// Makes so many seats of a repository, each for a thread of its own.
-pub(crate) fn places<'r, F: Filed, S: Store, J: Naming, R: Wait>(
+pub(crate) fn places<'r, F: SoundTrees, S: Store, J: Naming, R: Abort + Wait>(
     rt: &'r R,
     alloc: Global,
     stored: StoredRepository<F, S>,
     count: usize,
     history: NewHistory,
-) -> Result<Vec<Place<'r, F, S, J, R>>, Fail>
-    requires book { history.seen.book ≡ J.book }
-    requires sound { AreSound (F.content stored.repository).revisions }
+) -> Vec<Place<'r, F, S, J, R>>
+    requires { history.seen.book ≡ J.book }
 {
-    let (repository, seats) = share::<F, S, J>(alloc, stored, count, history)?;
-    let repository = Arc::new(alloc, repository)?;
+    stored.repository().trees_are_sound();
+    let shared = share::<F, S, J>(alloc, stored, count, history);
+    let (repository, seats) = shared.expect(rt, "a repository that is shared");
+    let repository = Arc::new(alloc, repository).expect(rt, "memory");
     let mut found = Vec::new(alloc);
     for seat in seats {
-        found.push(placed(rt, &repository, seat)?)?;
+        found
+            .push(placed(rt, &repository, seat))
+            .expect(rt, "memory");
     }
-    Ok(found)
+    found
 }
 
 /// Takes the last place.
-fn taken<'r, F: Filed, S: Store, J: Naming, R: Wait>(
+fn taken<'r, F: Filed, S: Store, J: Naming, R: Abort + Wait>(
+    rt: &R,
     places: &mut Vec<Place<'r, F, S, J, R>>,
-) -> Result<Access<'r, F, S, J, R>, AllocError> {
-    match places.pop() {
-        Some(place) => Ok(place.into_access()),
-        None => Err(AllocError),
-    }
+) -> Access<'r, F, S, J, R> {
+    places.pop().expect(rt, "a place").into_access()
 }
 
-/// Gives the repository as each of two seats reaches it.
-pub(crate) fn two_seats<'r, F: Filed, S: Store, J: Naming, R: Wait>(
+/// Gives a repository as each of two seats reaches it.
+pub(crate) fn two_seats<'r, F: SoundTrees, S: Store, J: Naming, R: Abort + Wait>(
     rt: &'r R,
     alloc: Global,
     stored: StoredRepository<F, S>,
     history: NewHistory,
-) -> Result<(Access<'r, F, S, J, R>, Access<'r, F, S, J, R>), Fail>
-    requires book { history.seen.book ≡ J.book }
-    requires sound { AreSound (F.content stored.repository).revisions }
+) -> (Access<'r, F, S, J, R>, Access<'r, F, S, J, R>)
+    requires { history.seen.book ≡ J.book }
 {
-    let mut places = places::<F, S, J, R>(rt, alloc, stored, 2, history)?;
-    let first = taken(&mut places)?;
-    let second = taken(&mut places)?;
-    Ok((first, second))
+    let mut places = places::<F, S, J, R>(rt, alloc, stored, 2, history);
+    (taken(rt, &mut places), taken(rt, &mut places))
 }

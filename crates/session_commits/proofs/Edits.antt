@@ -1,4 +1,4 @@
--- The steps of an edit.
+-- The end of an edit.
 use Rattle.std.proofs.Common.{◌≡◌, ℕ, List, [], ◌∷◌, Bool, true, false, Option, Some, None, refl, sym, ap, subst, inl, inr, length}
 use Rattle.std.specs.Prelude.{Result, Ok, Err, if◌then◌else◌, option_map}
 use Rattle.dates.specs.Dates.{IsDateText}
@@ -12,38 +12,21 @@ use Rattle.wire_edits.specs.declared.editing.EditorCommand.TheVariants.{AddDirec
 use Rattle.wire_edits.specs.declared.editing.EditorCommand.TheVariants.{ChangeDirectoryProperty, ChangeFileProperty, ApplyTextDelta, TextDeltaChunk}
 use Rattle.wire_edits.specs.declared.editing.EditorCommand.TheVariants.{TextDeltaEnd, CloseDirectory, CloseFile, CloseEdit, AbortEdit}
 use Rattle.wire_replies.specs.declared.reply.Reply.TheVariants as replies
-use Rattle.edit_rules.specs.{Editor.{Applies, finished}, Edits.EditState, Refusing.edit_refusal}
+use Rattle.edit_rules.specs.Editor.{finished}
 use Rattle.access.specs.{Changing.{CommitsAt, wants_release}, Points.{AccessRules, content_of, Point}, declared.access.Committed.Committed}
 use Rattle.access.specs.{declared.access.Released.Released, declared.access.Released.TheVariants.{Settled, NoMemory, StoreFailed}}
 use Rattle.machine.specs.{Answers.{Answer, behind, change_answer, says, serves, Step}, Answers.Verdict.{NotWritten, Unknown, Written}, Machine.CloseStep}
-use Rattle.machine.specs.Machine.{CommandStep, commit_ask, CommitStep, EditingStep, EditStep, ending_of, gives_up, IsReleaseOf, JudgedEdit, MachineEdit}
-use Rattle.machine.specs.Machine.{made_answer, Release, release_fails, unreleased_answer, UnreleasedClose, UnreleasedEnd}
+use Rattle.machine.specs.Machine.{CommandStep, commit_ask, CommitStep, EditingStep, ending_of, IsReleaseOf, MachineEdit, made_answer, Release, release_fails}
+use Rattle.machine.specs.Machine.{unreleased_answer, UnreleasedClose, UnreleasedEnd}
 use Rattle.machine.specs.{Machine.Release.{InDoubt, NotReleased, Released as FreedThere, Stays as StayThere}, Stages.Stage, Steps.EffectAt}
 use Rattle.machine.specs.{declared.commit_parameters.CommitParameters.CommitParameters, declared.env.Env.Env, declared.ending.Ending.Ending}
-use Rattle.machine.specs.declared.ending.Ending.TheVariants.{Commits as ToCommit, GivesUp}
-use Rattle.machine.specs.{declared.phase.Phase.TheVariants.{Serving, Editing, Skipping, Ended}, declared.phase.Client.Client}
+use Rattle.machine.specs.{declared.ending.Ending.TheVariants.{Commits as ToCommit, GivesUp}, declared.phase.Phase.TheVariants.{Serving, Ended}}
+use Rattle.machine.specs.declared.phase.Client.{Client}
 use Rattle.session_replies.specs.Telling.{fault_answer}
 use Rattle.session_replies.proofs.Steps.{AnsweredIfAnyWith, Leads, leads_by, only_says, stepped, SteppedInPartWith, unparted, not_asked}
 use Rattle.session_commits.specs.Telling.{commit_answer}
 
--- ---- the steps of an edit
-
-module _ (rules : AccessRules) (env : Env) (edit : MachineEdit) (command : EditorCommand) (p q : Point) (later : rules.between p q) where
-  -- a command is applied
-  pub goes_on : (after : EditState) → edit_refusal (content_of q) edit.editor command ≡ None → Applies (content_of q) edit.editor command after
-      → Leads rules (EditStep env edit command) p q env
-      (Editing (record { client = edit.client; asked = edit.asked; editor = after })) []
-  goes_on after accepted applies =
-      let phase : Stage = Editing (record { client = edit.client; asked = edit.asked; editor = after }) in
-      let judged = subst (λ (r : Option Refusal). JudgedEdit env (content_of q) edit command r (says env phase [])) (sym accepted) (after, applies, refl) in
-      only_says later judged
-
-  -- one that is refused gives the edit up
-  pub ends : (r : Refusal) → edit_refusal (content_of q) edit.editor command ≡ Some r
-      → Leads rules (EditStep env edit command) p q env (Skipping edit.client) (replies.Failure r ∷ [])
-  ends r refused =
-      let judged = subst (λ (o : Option Refusal). JudgedEdit env (content_of q) edit command o (gives_up env edit.client r)) (sym refused) refl in
-      only_says later judged
+-- ---- the end of an edit
 
 -- an edit that cannot be committed
 pub closes_by : (rules : AccessRules) (env : Env) (edit : MachineEdit) (p : Point) (r : Refusal) → rules.between p p → finished edit.editor ≡ Err r

@@ -1,20 +1,17 @@
 //! A commit: its beginning, its commands and its end.
-ghost use Rattle.std.specs.Prelude.{◌≡◌, ◌≤◌, ◌∷◌, [], Ok, Err, Some, None, IfOk, if◌then◌else◌, MatchResult};
+ghost use Rattle.std.specs.Prelude.{◌≡◌, ◌≤◌, ◌∷◌, [], Ok, Err, Some, IfOk, if◌then◌else◌};
 ghost use Rattle.items.specs.View.{value_of};
 ghost use Rattle.dates.specs.{Dates.IsDateText, declared.TheConstants.LAST_MOMENT};
 ghost use Rattle.repo_api.specs.Transactions.{MayCommit};
-ghost use Rattle.wire_edits.specs.Editing.{editor_command, ends_edit};
-ghost use Rattle.edit_rules.specs.{Editor.{Applies, finished, RestsOn}, Edits.new_edit, Refusing.edit_refusal, Soundness.IsSoundEdit};
-ghost use Rattle.refusals.specs.Faults.{IfRefusedBy};
+ghost use Rattle.wire_edits.specs.Editing.{editor_command};
+ghost use Rattle.edit_rules.specs.{Editor.{finished, RestsOn}, Edits.new_edit, Soundness.IsSoundEdit};
 ghost use Rattle.access.specs.Points.{content_of};
 ghost use Rattle.machine.specs.{Answers.says, Commands.{asked_by, commit_begins, lock_tokens}};
-ghost use Rattle.machine.specs.Machine.{CloseStep, commit_ask, EditingStep, EditStep, skipping_answer, UnreleasedClose, UnreleasedEnd};
-ghost use Rattle.machine.specs.Steps.{Answered, AnsweredIfAny, Stepped, SteppedInPart, Looks};
+ghost use Rattle.machine.specs.{Machine.{CloseStep, commit_ask, EditingStep, UnreleasedClose, UnreleasedEnd}, Steps.{Answered, AnsweredIfAny, SteppedInPart}};
 ghost use Rattle.wire_replies.specs.{Made.Makes, Sinks.Says};
 ghost use Rattle.session_commits.specs.Telling.{tells_made, commit_answer};
 
 use crate::asking::asked_by;
-use crate::giving_up::give_up;
 use access::{Committed, Released, RepoAccess};
 use byte_string::ByteString;
 use commands::CommitCommand;
@@ -24,13 +21,14 @@ use items::Item;
 use machine::{Client, CommitParameters, Ending, OpenEdit, Options, Phase, Turn, ending_of};
 use refusals::{NotDone, Refusal};
 use repo_api::{CommitAsk, Repository};
+use session_edits::{apply_command, give_up};
 use session_replies::{
     Preface, SessionEdit, SessionPhase, end_malformed, refuse, stands, tell_fault,
 };
 use std::alloc::{AllocError, Global};
 use std::mem::drop;
 use svnpath::Path;
-use wire_edits::{EditorCommand, ends_edit};
+use wire_edits::EditorCommand;
 use wire_forms::CommandFault;
 use wire_replies::{Reply, ReplySink, say_both};
 
@@ -88,46 +86,6 @@ pub fn begin_edit<R: Repository, S: ReplySink>(
         Err(NotDone::Refused(refusal)) => refuse(client, Preface::Nothing, refusal, turn),
         Err(NotDone::NoMemory) => {
             drop(client);
-            Err(AllocError)
-        }
-    }
-}
-
-/// Applies a command at the repository as it is now.
-fn apply_now<R: Repository, A: RepoAccess<View = R>>(
-    editor: &mut CommitEditor<R>,
-    command: &EditorCommand,
-    access: &mut A,
-) -> Result<(), NotDone>
-    requires rests { RestsOn editor.old (content_of (A.point access.old)) }
-    requires sound { IsSoundEdit editor.old }
-    ensures { Looks A.rules A.point access.old access.new (λ c. MatchResult result
-        (λ _. (edit_refusal c editor.old command.now ≡ None)
-        × Applies c editor.old command.now editor.new)
-        (λ fault. IfRefusedBy fault (λ r. edit_refusal c editor.old command.now ≡ Some r))) }
-{
-    let view = access.look()?;
-    editor.apply(command, &view)
-}
-
-/// Carries out a command that edits. One that is refused gives the edit up.
-fn apply_command<R: Repository, A: RepoAccess<View = R>, S: ReplySink>(
-    edit: SessionEdit<R>,
-    command: &EditorCommand,
-    access: &mut A,
-    turn: &mut Turn<S>,
-) -> Result<SessionPhase<R>, AllocError>
-    requires rests { RestsOn edit.editor (content_of (A.point access.old)) }
-    requires sound { IsSoundEdit edit.editor }
-    ensures { Stepped result S.writes turn.old turn.new A.rules A.point access.old access.new
-        (EditStep turn.old.env edit command.now) }
-{
-    let mut edit = edit;
-    match apply_now(&mut edit.editor, command, access) {
-        Ok(()) => Ok(Phase::Editing(edit)),
-        Err(NotDone::Refused(refusal)) => give_up(edit, refusal, turn),
-        Err(NotDone::NoMemory) => {
-            drop(edit);
             Err(AllocError)
         }
     }
@@ -398,25 +356,6 @@ pub fn edit_item<R: Repository, A: RepoAccess<View = R>, S: ReplySink>(
         Err(CommandFault::NoMemory) => {
             drop(edit);
             Err(AllocError)
-        }
-    }
-}
-
-/// Skips an item of an edit that was given up.
-pub fn skipped_item<R: Repository, S: ReplySink>(
-    client: Client,
-    item: &Item,
-    turn: &mut Turn<S>,
-) -> Result<SessionPhase<R>, AllocError>
-    ensures { Answered result S.writes turn.old turn.new
-        (skipping_answer turn.old.env client (ends_edit (value_of item.now))) }
-{
-    match ends_edit(item) {
-        Some(true) => Ok(Phase::Serving(client)),
-        Some(false) => Ok(Phase::Skipping(client)),
-        None => {
-            drop(client);
-            end_malformed(turn)
         }
     }
 }

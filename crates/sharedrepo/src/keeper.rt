@@ -1,6 +1,7 @@
 //! The keeper of a repository: it alone changes it.
-ghost use Rattle.std.specs.Prelude.{◌≡◌, ◌<◌, ◌^◌, false, None, length, All, IfOk};
-ghost use Rattle.published.specs.{Edition.edition_after, Events.{state_of, point_of}};
+ghost use Rattle.std.specs.Prelude.{◌≡◌, ◌<◌, ◌^◌, ◌∷◌, [], false, None, length, All, IfOk};
+ghost use Rattle.repo_api.specs.Soundness.{AreSound};
+ghost use Rattle.published.specs.{Edition.edition_after, Events.{state_of, point_of}, Events.Event.Opened};
 ghost use Rattle.sharedrepo.specs.{Archives.MayOpen, Standing.IsOpened};
 
 use crate::archive::Archive;
@@ -13,7 +14,7 @@ use published::{
 use repo_api::Repository;
 use std::alloc::{AllocError, Global};
 use std::marker::{Model, PhantomData};
-use std::mem;
+use std::mem::{self, drop};
 use std::sync::Wait;
 
 /// How many seats there are at most.
@@ -145,6 +146,57 @@ fn desk_at<
     Desk::new(alloc, first, second, seats)
 }
 
+/// Begins the history of a repository: its opening is the first event.
+fn open_history<R: Repository, J: Naming>(
+    history: NewHistory,
+    repository: &R,
+) -> Result<(Book<J>, Front<J>), AllocError>
+    requires book { history.seen.book ≡ J.book }
+    requires sound { AreSound (R.content repository.now).revisions }
+    ensures { IfOk result (λ opened. opened.1 ≡ Opened (R.content repository.now) ∷ []) }
+{
+    let (book, mut front) = history.named::<J>();
+    if front.add::<R, OpeningEvent>(&book, repository) {
+        Ok((book, front))
+    } else {
+        drop((book, front));
+        Err(AllocError)
+    }
+}
+
+/// Makes the writer over the two copies, with so many seats at this front.
+fn open_desk<
+    R: Repository,
+    J: Naming,
+    T: Absorb<O> + Carries<Published<R, J>> + Drop,
+    O: Sets<Published<R, J>> + Drop,
+>(
+    alloc: Global,
+    repository: &R,
+    front: &Front<J>,
+    failures: u64,
+    seats: usize,
+) -> Result<(Desk<T, O>, Vec<Seat<R, J, T>>), AllocError>
+    requires alike { (x y : T) → T.state x ≡ T.state y }
+    requires stands { R.content repository.now ≡ state_of front.now }
+    requires begun { 0 < length front.now }
+    ensures desk { IfOk result (λ opened. T.carried_value opened.0.writer.desk.shown.value
+        ≡ edition_after front.now) }
+    ensures seats { IfOk result (λ opened. All (λ s. s ≡ point_of front.now false failures None) opened.1.items) }
+{
+    if seats == 0 || seats > MAX_SEATS {
+        return Err(AllocError);
+    }
+    let desk = desk_at(alloc, repository, front, seats)?;
+    match seat_all(alloc, &desk, front, failures, seats) {
+        Ok(seats) => Ok((desk, seats)),
+        Err(error) => {
+            drop(desk);
+            Err(error)
+        }
+    }
+}
+
 impl<
     R: Repository,
     S: Archive<R>,
@@ -165,27 +217,33 @@ impl<
         requires stands { MayOpen (S.kept archive) (R.content repository) }
         ensures { IfOk result (IsOpened S.kept S.stands archive (R.content repository)) }
     {
-        if seats == 0 || seats > MAX_SEATS {
-            return Err(AllocError);
-        }
         let failures = archive.failures();
-        let (book, mut front) = history.named::<J>();
-        if !front.add::<R, OpeningEvent>(&book, &repository) {
-            return Err(AllocError);
+        match open_history::<R, J>(history, &repository) {
+            Ok((book, front)) => match open_desk(alloc, &repository, &front, failures, seats) {
+                Ok((desk, seats)) => {
+                    let keeper = Keeper {
+                        alloc,
+                        book,
+                        front,
+                        repository,
+                        desk,
+                        archive,
+                        pending: None,
+                        has_ended: false,
+                    };
+                    Ok((keeper, seats))
+                }
+                Err(error) => {
+                    drop((book, front));
+                    drop((repository, archive));
+                    Err(error)
+                }
+            },
+            Err(error) => {
+                drop((repository, archive));
+                Err(error)
+            }
         }
-        let desk = desk_at(alloc, &repository, &front, seats)?;
-        let seats = seat_all(alloc, &desk, &front, failures, seats)?;
-        let keeper = Keeper {
-            alloc,
-            book,
-            front,
-            repository,
-            desk,
-            archive,
-            pending: None,
-            has_ended: false,
-        };
-        Ok((keeper, seats))
     }
 
     /// Ends it, unless memory is refused: looks and changes are then refused. What it has published is

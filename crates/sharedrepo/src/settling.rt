@@ -35,18 +35,58 @@ pub(crate) fn make_ready<
     ensures desk { desk.new.writer.desk ≡ desk.old.writer.desk }
     ensures ready { IfOk result (BothContain R.content (R.content next.now)) }
 {
-    let first = next.share()?;
-    let second = next.share()?;
-    let places = Arc::new(alloc, Places::new())?;
-    let pending = Arc::try_clone(&places)?;
-    if desk.pend(O::set(pending)).is_err() {
-        return Err(AllocError);
+    let (first, second) = share_twice(next)?;
+    match pend_places(alloc, desk) {
+        Ok(places) => Ok(Ready {
+            first,
+            second,
+            places,
+        }),
+        Err(error) => {
+            drop(first);
+            drop(second);
+            Err(error)
+        }
     }
-    Ok(Ready {
-        first,
-        second,
-        places,
-    })
+}
+
+/// Makes two copies of the next repository.
+fn share_twice<R: Repository>(next: &R) -> Result<(R, R), AllocError>
+    ensures { IfOk result (λ copies. (R.content copies.0 ≡ R.content next.now)
+        × (R.content copies.1 ≡ R.content next.now)) }
+{
+    let first = next.share()?;
+    match next.share() {
+        Ok(second) => Ok((first, second)),
+        Err(error) => {
+            drop(first);
+            Err(error)
+        }
+    }
+}
+
+/// Puts the operation behind what is pending by which the next value is published, and gives its places.
+fn pend_places<P: Drop, T: Absorb<O> + Drop, O: Sets<P> + Drop>(
+    alloc: Global,
+    desk: &mut Desk<T, O>,
+) -> Result<Arc<Places<P>>, AllocError>
+    ensures { desk.new.writer.desk ≡ desk.old.writer.desk }
+{
+    let places = Arc::new(alloc, Places::new())?;
+    match Arc::try_clone(&places) {
+        Ok(pending) => match desk.pend(O::set(pending)) {
+            Ok(()) => Ok(places),
+            Err(operation) => {
+                drop(operation);
+                drop(places);
+                Err(AllocError)
+            }
+        },
+        Err(_) => {
+            drop(places);
+            Err(AllocError)
+        }
+    }
 }
 
 /// Saves what comes next, once all else that needs memory is at hand.

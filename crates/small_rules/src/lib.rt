@@ -1,11 +1,12 @@
 //! Small rules that larger promises rest on, each with a wrong body that turns it.
 #![tactic(auto)]
 
-ghost use Rattle.std.specs.Prelude.{◌≡◌};
-ghost use Rattle.repo_api.specs.Locking.{is_of_whole_tree};
+ghost use Rattle.std.specs.Prelude.{◌≡◌, Option};
+ghost use Rattle.repo_api.specs.{Kinds.kind_of, Locking.is_of_whole_tree, declared.entry.Entry.Entry};
 ghost use Rattle.wire_forms.specs.Forms.{is_name};
+ghost use Rattle.small_rules.specs.Going.{goes};
 
-use repo_api::{Action, FileText};
+use repo_api::{Action, FileText, NodeKind};
 
 /// Says whether a change of this kind changes all that lies beneath its path.
 pub fn is_of_whole_tree(action: Action) -> bool
@@ -22,4 +23,15 @@ pub fn is_same_text(old: &FileText, new: &FileText) -> bool
     ensures { result ≡ is_name old.now new.now }
 {
     old.as_slice() == new.as_slice()
+}
+
+/// Says whether an entry of the old kind goes, or comes anew as one of the new kind.
+pub fn goes(old: NodeKind, new: NodeKind) -> bool
+    ensures { (e f : Option Entry) → old ≡ kind_of e → new ≡ kind_of f → result ≡ goes e f }
+{
+    match old {
+        NodeKind::Absent => false,
+        NodeKind::File => !new.is_file(),
+        NodeKind::Directory => !new.is_directory(),
+    }
 }

@@ -1,25 +1,24 @@
 -- A call of a folder, with its answer.
 use Rattle.std.specs.Prelude.{ℕ, List, [], ◌∷◌, slice_index}
-use Rattle.store_files.specs.{Folders.{Folder, nothing, with_file}, Names.named}
+use Rattle.store_files.specs.{Folders.{Folder, nothing, with_file}, Names.{Numbers, named}}
 
--- which call, the kind and the number of the file's name, the answer, and bytes
+-- which call, the file's name in numbers, the answer, and bytes
 abbrev pub Event : Type 0
-Event = ℕ × ℕ × ℕ × ℕ × List ℕ
+Event = ℕ × Numbers × ℕ × List ℕ
 
 abbrev pub event_of : List ℕ → List ℕ → Event
 event_of numbers bytes = (
   slice_index numbers 0,
-  slice_index numbers 1,
-  slice_index numbers 2,
-  slice_index numbers 3,
+  (slice_index numbers 1, slice_index numbers 2, slice_index numbers 3),
+  slice_index numbers 4,
   bytes,
 )
 
--- a file that is known: the kind and the number of its name, and its bytes
+-- a file that is known: its name in numbers, and its bytes
 abbrev pub Known : Type 0
-Known = ℕ × ℕ × List ℕ
+Known = Numbers × List ℕ
 
 -- the folder with these files
 abbrev pub folder_of : List Known → Folder
 folder_of [] = nothing
-folder_of (file ∷ files) = with_file (folder_of files) (named file.0 file.1) file.2
+folder_of (file ∷ files) = with_file (folder_of files) (named file.0) file.1

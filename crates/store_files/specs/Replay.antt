@@ -9,7 +9,7 @@ use Rattle.store_files.specs.{Names.named, Note.Event}
 -- refused, 3 there is no such file, 4 the device failed before a replacement had changed anything
 
 abbrev pub name_of : Event → FileName
-name_of e = named e.1 e.2
+name_of e = named e.1
 
 -- a file has its bytes once a call that writes it is done
 abbrev pub after_call : ℕ → ℕ → FileName → List ℕ → Folder → Folder
@@ -19,7 +19,7 @@ after_call (suc k) (suc a) name bytes f = f
 
 abbrev pub held : Folder → List Event → Folder
 held start [] = start
-held start (e ∷ es) = after_call e.0 e.3 (name_of e) e.4 (held start es)
+held start (e ∷ es) = after_call e.0 e.2 (name_of e) e.3 (held start es)
 
 -- what a stop leaves while a call is made
 abbrev pub During : ℕ → FileName → List ℕ → (Folder → Type 0) → Folder → Type 0
@@ -38,13 +38,13 @@ Behind (suc (suc k)) (suc (suc a)) name bytes leaves f = leaves f
 
 abbrev pub Leaves : Folder → List Event → Folder → Type 0
 Leaves start [] f = IsSame start f
-Leaves start (e ∷ es) f = Behind e.0 e.3 (name_of e) e.4 (Leaves start es) f
+Leaves start (e ∷ es) f = Behind e.0 e.2 (name_of e) e.3 (Leaves start es) f
 
 -- what a stop may have left since the first t calls
 abbrev pub LeftSince : Folder → List Event → ℕ → Folder → Type 0
 LeftSince start [] t f = IsSame start f
 LeftSince start (e ∷ es) t f =
-    ((t ≤ length es) × (LeftSince start es t f ⊎ During e.0 (name_of e) e.4 (Leaves start es) f))
+    ((t ≤ length es) × (LeftSince start es t f ⊎ During e.0 (name_of e) e.3 (Leaves start es) f))
     ⊎ Leaves start (e ∷ es) f
 
 -- an answer is that of files which give back what was written
@@ -57,7 +57,7 @@ Agrees (suc k) answer bytes held = Unit {0}
 
 abbrev pub IsHonest : Folder → List Event → Type 0
 IsHonest start [] = Unit {0}
-IsHonest start (e ∷ es) = IsHonest start es × Agrees e.0 e.3 e.4 (held start es (name_of e))
+IsHonest start (e ∷ es) = IsHonest start es × Agrees e.0 e.2 e.3 (held start es (name_of e))
 
 -- how often the device failed
 abbrev pub count_after : ℕ → ℕ → ℕ
@@ -70,7 +70,7 @@ count_after (suc (suc (suc (suc (suc a))))) n = n
 
 abbrev pub failed_in : List Event → ℕ
 failed_in [] = 0
-failed_in (e ∷ es) = count_after e.3 (failed_in es)
+failed_in (e ∷ es) = count_after e.2 (failed_in es)
 
 -- and how often in a replacement
 abbrev pub doubts_after : ℕ → ℕ → ℕ → ℕ
@@ -82,7 +82,7 @@ doubts_after (suc (suc k)) (suc (suc a)) n = n
 
 abbrev pub doubts_in : List Event → ℕ
 doubts_in [] = 0
-doubts_in (e ∷ es) = doubts_after e.0 e.3 (doubts_in es)
+doubts_in (e ∷ es) = doubts_after e.0 e.2 (doubts_in es)
 
 -- ---- laws
 
@@ -105,4 +105,4 @@ count_is (suc (suc (suc (suc (suc a))))) n le = le
 
 pub failed_is : (es : List Event) → failed_in es ≤ last_count
 failed_is [] = omega arith
-failed_is (e ∷ es) = count_is e.3 (failed_in es) (failed_is es)
+failed_is (e ∷ es) = count_is e.2 (failed_in es) (failed_is es)

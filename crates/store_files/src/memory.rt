@@ -1,6 +1,6 @@
 //! Files in memory.
 ghost use Rattle.std.specs.Prelude.{◌≡◌, ◌<◌, [], ◌∷◌, None, OnOk, OnErr, IsErrOf, IsErr, option_copied};
-ghost use Rattle.store_files.specs.{Folders.{Folder, IsSame, nothing, with_file}, Memory.{files_of, put_events}, Names.{kind_of, number_of}, Note.event_of, Replay.{held, Leaves}};
+ghost use Rattle.store_files.specs.{Folders.{Folder, IsSame, nothing, with_file}, Memory.{files_of, put_events}, Names.{kind_of, shard_of, number_of}, Note.event_of, Replay.{held, Leaves}};
 
 use crate::fault::{ReplaceFault, StoreFault};
 use crate::name::FileName;
@@ -17,7 +17,7 @@ const REPLACED: u64 = 2;
 pub struct MemoryStore {
     alloc: Global,
     /// The bytes of each file by the numbers of its name.
-    files: BTreeMap<(u8, u32), Vec<u8>>,
+    files: BTreeMap<(u8, u32, u32), Vec<u8>>,
     log: Record,
     ghost same: { IsSame (held nothing log.events) (files_of files) },
     ghost rests: { (f : Folder) → Leaves nothing log.events f → IsSame (held nothing log.events) f },
@@ -49,7 +49,7 @@ impl MemoryStore {
     pub fn bytes(&self, name: FileName) -> Option<&[u8]>
         ensures { option_copied result ≡ files_of self.now.files name }
     {
-        let found = self.files.get(&(name.kind(), name.number()))?;
+        let found = self.files.get(&name.numbers())?;
         Some(found.as_slice())
     }
 
@@ -66,8 +66,9 @@ impl MemoryStore {
     {
         put_file(self.alloc, &mut self.files, name, bytes)?;
         let kind = u64::from(name.kind());
+        let shard = u64::from(name.shard());
         let number = u64::from(name.number());
-        self.log.note(&[call, kind, number, 0], bytes);
+        self.log.note(&[call, kind, shard, number, 0], bytes);
         Ok(())
     }
 }
@@ -75,7 +76,7 @@ impl MemoryStore {
 /// Puts these bytes in a file.
 fn put_file(
     alloc: Global,
-    files: &mut BTreeMap<(u8, u32), Vec<u8>>,
+    files: &mut BTreeMap<(u8, u32, u32), Vec<u8>>,
     name: FileName,
     bytes: &[u8],
 ) -> Result<(), AllocError>
@@ -84,7 +85,7 @@ fn put_file(
     ensures err { OnErr result (IsSame (files_of files.old) (files_of files.new)) }
 {
     let bytes = bytes.to_vec(alloc)?;
-    files.insert((name.kind(), name.number()), bytes)?;
+    files.insert(name.numbers(), bytes)?;
     Ok(())
 }
 
@@ -113,7 +114,7 @@ impl Store for MemoryStore {
     ghost is_count = { λ _. zero_le last_count };
 
     fn read(&mut self, alloc: Global, name: FileName) -> Result<Option<Vec<u8>>, StoreFault> {
-        match self.files.get(&(name.kind(), name.number())) {
+        match self.files.get(&name.numbers()) {
             None => Ok(None),
             Some(bytes) => Ok(Some(bytes.as_slice().to_vec(alloc)?)),
         }

@@ -5,7 +5,7 @@ use Rattle.store_files.specs.{Moments.{HasCause, HasRisen, last_count}, declared
 use Rattle.store_files.specs.declared.fault.StoreFault.TheVariants as faults
 use Rattle.store_files.specs.{Faults.as_told, declared.fault.ReplaceFault.ReplaceFault}
 use Rattle.store_files.specs.declared.fault.ReplaceFault.TheVariants as replace
-use Rattle.store_files.specs.{Note.Event, Replay.{failed_in, count_after, failed_is}}
+use Rattle.store_files.specs.{Names.Numbers, Note.Event, Replay.{failed_in, count_after, failed_is}}
 use Rattle.store_folder.specs.Answers.{fault_of, trouble_number, done_number, done_result, replaced_number}
 use Rattle.store_folder.specs.{declared.fault.Trouble.Trouble, declared.fault.Trouble.TheVariants.{Device, NoMemory}}
 
@@ -55,17 +55,17 @@ replaced x (Err replace.NoMemory) few = failed (Unit {0}) x NoMemory few
 replaced x (Err replace.Unchanged) few = by_device x few
 
 -- so it is of the record
-pub failed_call : (T : Type 0) (old new : List Event) (k n m : ℕ) (bytes : List ℕ) (a : Trouble) → new ≡ (k, n, m, trouble_number a, bytes) ∷ old
+pub failed_call : (T : Type 0) (old new : List Event) (k : ℕ) (n : Numbers) (bytes : List ℕ) (a : Trouble) → new ≡ (k, n, trouble_number a, bytes) ∷ old
     → HasCause {T = T} (failed_in old) (failed_in new) (Err (fault_of a))
-failed_call T old new k n m bytes a is =
+failed_call T old new k n bytes a is =
     subst (λ (es : List Event). HasCause {T = T} (failed_in old) (failed_in es) (Err (fault_of a))) (sym is) (failed T (failed_in old) a (failed_is old))
 
-pub done_call : (old new : List Event) (k n m : ℕ) (bytes : List ℕ) (answer : Result (Unit {0}) Trouble) → new ≡ (k, n, m, done_number answer, bytes) ∷ old
+pub done_call : (old new : List Event) (k : ℕ) (n : Numbers) (bytes : List ℕ) (answer : Result (Unit {0}) Trouble) → new ≡ (k, n, done_number answer, bytes) ∷ old
     → HasCause (failed_in old) (failed_in new) (done_result answer)
-done_call old new k n m bytes answer is =
+done_call old new k n bytes answer is =
     subst (λ (es : List Event). HasCause (failed_in old) (failed_in es) (done_result answer)) (sym is) (done (failed_in old) answer (failed_is old))
 
-pub replaced_call : (old new : List Event) (k n m : ℕ) (bytes : List ℕ) (answer : Result (Unit {0}) ReplaceFault)
-    → new ≡ (k, n, m, replaced_number answer, bytes) ∷ old → HasCause (failed_in old) (failed_in new) (as_told answer)
-replaced_call old new k n m bytes answer is =
+pub replaced_call : (old new : List Event) (k : ℕ) (n : Numbers) (bytes : List ℕ) (answer : Result (Unit {0}) ReplaceFault)
+    → new ≡ (k, n, replaced_number answer, bytes) ∷ old → HasCause (failed_in old) (failed_in new) (as_told answer)
+replaced_call old new k n bytes answer is =
     subst (λ (es : List Event). HasCause (failed_in old) (failed_in es) (as_told answer)) (sym is) (replaced (failed_in old) answer (failed_is old))

@@ -1,12 +1,12 @@
 //! Files in a folder: each is on the disk before its call answers.
 ghost use Rattle.std.specs.Prelude.{◌≡◌, [], ◌∷◌, List, Result, Ok, Err, IfOk};
-ghost use Rattle.store_files.specs.{Folders.{Folder, IsSame}, Names.{kind_of, number_of}, Note.{Known, event_of, folder_of}, Replay.{Leaves, failed_in, held}};
+ghost use Rattle.store_files.specs.{Folders.{Folder, IsSame}, Names.{kind_of, number_of, shard_of}, Note.{Known, event_of, folder_of}, Replay.{Leaves, failed_in, held}};
 ghost use Rattle.store_folder.specs.Answers.{fault_of, trouble_number, done_number, done_result, replaced_number};
 
 use crate::fault::{FolderFault, Trouble};
 use crate::lock::LockFolder;
-use crate::looking::{check_contents, check_root, read_file};
-use crate::writing::{check_writable, make_root, replace, settle_names, write_new};
+use crate::own::OwnFolder;
+use crate::writing::make_root;
 use std::alloc::Global;
 use std::rt::Files;
 use store_files::{FileName, Record, ReplaceFault, Store, StoreFault};
@@ -19,11 +19,9 @@ const REPLACED: u64 = 2;
 
 /// The files of a repository in a folder, which no other store has as long as this one has it.
 pub struct FolderStore<R: Files + AllocGlobal + LockFolder + Drop> {
-    rt: R,
-    folder: String,
-    /// The lock of the folder, which ends with this value, and so with its process.
-    lock: R::Lock,
+    own: OwnFolder<R>,
     failures: u64,
+    last_read: Option<FileName>,
     log: Record,
     ghost counted: { failures ≡ failed_in log.events },
 }
@@ -31,10 +29,9 @@ pub struct FolderStore<R: Files + AllocGlobal + LockFolder + Drop> {
 impl<R: Files + AllocGlobal + LockFolder + Drop> Drop for FolderStore<R> {
     fn drop(self) {
         let FolderStore {
-            rt: _,
-            folder: _,
-            lock: _,
+            own: _,
             failures: _,
+            last_read: _,
             log: _,
         } = self;
     }
@@ -50,15 +47,10 @@ impl<R: Files + AllocGlobal + LockFolder + Drop> FolderStore<R> {
             → Leaves (folder_of store.log.start) store.log.events f
             → IsSame (held (folder_of store.log.start) store.log.events) f) }
     {
-        check_root(&rt, &folder)?;
-        let lock = locked(&rt, &folder)?;
-        check_contents(&rt, &folder)?;
-        settle_names(&rt, &folder)?;
         Ok(FolderStore {
-            rt,
-            folder,
-            lock,
+            own: OwnFolder::open(rt, folder)?,
             failures: 0,
+            last_read: None,
             log: Record::new(),
         })
     }
@@ -76,38 +68,15 @@ impl<R: Files + AllocGlobal + LockFolder + Drop> FolderStore<R> {
         FolderStore::open(rt, folder)
     }
 
-    /// Finds out whether the folder can be written: makes a file in it, and in each folder of revisions, and removes it.
+    /// Gives the name of the file that was read last, or that could not be read.
+    pub fn last_read(&self) -> Option<FileName> {
+        self.last_read
+    }
+
+    /// Finds out whether the folder can be written: makes a file in it, and in each folder of revisions or of their
+    /// properties, and removes it.
     pub fn is_writable(&self) -> Result<(), FolderFault> {
-        let answer = match self.is_own() {
-            Ok(()) => check_writable(&self.rt, &self.folder),
-            Err(trouble) => Err(trouble),
-        };
-        match answer {
-            Ok(()) => Ok(()),
-            Err(Trouble::Device) => Err(FolderFault::Unwritable),
-            Err(Trouble::NoMemory) => Err(FolderFault::NoMemory),
-        }
-    }
-
-    /// Makes sure that the folder of the store's name is the one that it has locked, and no other that was put in its place.
-    fn is_own(&self) -> Result<(), Trouble> {
-        if self.rt.has_locked(&self.lock, &self.folder)? {
-            Ok(())
-        } else {
-            Err(Trouble::Device)
-        }
-    }
-
-    /// Writes a file, in place of one that is there, into the store's own folder.
-    fn written(&self, name: FileName, bytes: &[u8]) -> Result<(), Trouble> {
-        self.is_own()?;
-        write_new(&self.rt, &self.folder, name, bytes)
-    }
-
-    /// Puts a file with these bytes in the place of one, in the store's own folder.
-    fn replaced(&self, name: FileName, bytes: &[u8]) -> Result<(), ReplaceFault> {
-        self.is_own()?;
-        replace(&self.rt, &self.folder, name, bytes)
+        self.own.is_writable()
     }
 
     /// Notes what a call that writes anew has answered, and tells it.
@@ -119,7 +88,7 @@ impl<R: Files + AllocGlobal + LockFolder + Drop> FolderStore<R> {
     ) -> Result<(), StoreFault>
         ensures result { result ≡ done_result answer }
         ensures start { self.new.log.start ≡ self.old.log.start }
-        ensures log { self.new.log.events ≡ event_of (1 ∷ kind_of name ∷ number_of name
+        ensures log { self.new.log.events ≡ event_of (1 ∷ kind_of name ∷ shard_of name ∷ number_of name
             ∷ done_number answer ∷ []) bytes.now ∷ self.old.log.events }
     {
         let number = match answer {
@@ -136,12 +105,13 @@ impl<R: Files + AllocGlobal + LockFolder + Drop> FolderStore<R> {
     /// Notes an answer, and counts it where the device failed.
     fn count(&mut self, call: u64, name: FileName, number: u64, bytes: &[u8])
         ensures start { self.new.log.start ≡ self.old.log.start }
-        ensures log { self.new.log.events ≡ event_of (call ∷ kind_of name ∷ number_of name ∷ number ∷ [])
-            bytes.now ∷ self.old.log.events }
+        ensures log { self.new.log.events ≡ event_of (call ∷ kind_of name ∷ shard_of name ∷ number_of name
+            ∷ number ∷ []) bytes.now ∷ self.old.log.events }
     {
         let kind = u64::from(name.kind());
+        let shard = u64::from(name.shard());
         let revision = u64::from(name.number());
-        self.log.note(&[call, kind, revision, number], bytes);
+        self.log.note(&[call, kind, shard, revision, number], bytes);
         if number == 1 || number == 4 {
             self.failures = self.failures.saturating_add(1);
         }
@@ -181,15 +151,6 @@ fn store_fault(trouble: Trouble) -> StoreFault
     }
 }
 
-/// Takes the lock of a folder, unless another store has it.
-fn locked<R: LockFolder>(rt: &R, folder: &str) -> Result<R::Lock, FolderFault> {
-    match rt.lock_folder(folder) {
-        Ok(Some(lock)) => Ok(lock),
-        Ok(None) => Err(FolderFault::InUse),
-        Err(error) => Err(FolderFault::from(Trouble::from(error))),
-    }
-}
-
 impl<R: Files + AllocGlobal + LockFolder + Drop> Store for FolderStore<R> {
     ghost use Rattle.std.specs.Prelude.{length};
     ghost use Rattle.store_files.specs.Note.{folder_of};
@@ -216,7 +177,8 @@ impl<R: Files + AllocGlobal + LockFolder + Drop> Store for FolderStore<R> {
     ghost is_count = { λ s. failed_is s.log.events };
 
     fn read(&mut self, alloc: Global, name: FileName) -> Result<Option<Vec<u8>>, StoreFault> {
-        let answer = read_file(&self.rt, alloc, &self.folder, name);
+        self.last_read = Some(name);
+        let answer = self.own.read(alloc, name);
         match answer {
             Ok(Some(bytes)) => {
                 self.count(READ, name, 0, &bytes);
@@ -234,12 +196,12 @@ impl<R: Files + AllocGlobal + LockFolder + Drop> Store for FolderStore<R> {
     }
 
     fn write_new(&mut self, name: FileName, bytes: &[u8]) -> Result<(), StoreFault> {
-        let answer = self.written(name, bytes);
+        let answer = self.own.write_new(name, bytes);
         self.settle(name, bytes, answer)
     }
 
     fn replace(&mut self, name: FileName, bytes: &[u8]) -> Result<(), ReplaceFault> {
-        let answer = self.replaced(name, bytes);
+        let answer = self.own.replace(name, bytes);
         self.count(REPLACED, name, replaced_number(&answer), bytes);
         answer
     }

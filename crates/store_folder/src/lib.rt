@@ -3,13 +3,10 @@
 
 mod fault;
 mod folder;
-#[cfg(test)]
-mod interrupted;
 mod lock;
 mod looking;
+mod own;
 mod paths;
-#[cfg(test)]
-mod tests;
 mod writing;
 
 pub use fault::FolderFault;

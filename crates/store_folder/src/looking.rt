@@ -23,6 +23,12 @@ const LONE_FILES: [FileName; 6] = [
     FileName::Locks,
 ];
 
+/// Files of the folders that have no number.
+pub(crate) const FIRST_FILES: [FileName; 2] = [
+    FileName::Revision(None, 0),
+    FileName::Properties(None, 0),
+];
+
 /// Looks at what has a name, if anything has it. A link is looked at itself.
 pub(crate) fn look_at<R: Files>(rt: &R, path: &str) -> io::Result<Option<Metadata>> {
     for _ in 0..TRIES {
@@ -73,15 +79,15 @@ fn check_file<R: Files>(rt: &R, path: &str) -> Result<(), FolderFault> {
 }
 
 /// Makes sure that what is in a store's folder under the names that it always has is of its kind. What is missing is no
-/// fault, and the files of revisions are looked at as they are read.
+/// fault, and shards and the files of revisions are looked at as they are read.
 pub(crate) fn check_contents<R: Files + AllocGlobal>(
     rt: &R,
     root: &str,
 ) -> Result<(), FolderFault> {
-    let revision = Place::new(rt.alloc(), root, FileName::Revision(0)).map_err(Trouble::from)?;
-    check_folder(rt, &revision.folder)?;
-    let properties = Place::new(rt.alloc(), root, FileName::Properties(0)).map_err(Trouble::from)?;
-    check_folder(rt, &properties.folder)?;
+    for name in FIRST_FILES {
+        let place = Place::new(rt.alloc(), root, name).map_err(Trouble::from)?;
+        check_folder(rt, place.folder())?;
+    }
     for name in LONE_FILES {
         let place = Place::new(rt.alloc(), root, name).map_err(Trouble::from)?;
         check_file(rt, &place.path)?;
@@ -92,7 +98,7 @@ pub(crate) fn check_contents<R: Files + AllocGlobal>(
 /// Says how many bytes a file may have: one that has revisions, their properties or the locks, as many as there is memory for.
 fn length_limit(name: FileName) -> u64 {
     match name {
-        FileName::Revision(_) | FileName::Properties(_) | FileName::Locks => u64::MAX,
+        FileName::Revision(_, _) | FileName::Properties(_, _) | FileName::Locks => u64::MAX,
         _ => LINE_LIMIT,
     }
 }
@@ -113,7 +119,7 @@ fn read_first<R: Files>(
     Ok(bytes)
 }
 
-/// Reads the bytes of a file, if it exists. What is no plain file, or too long, is not opened.
+/// Reads the bytes of a file, if it exists. What is no plain file, too long, or behind a link, is not opened.
 pub(crate) fn read_file<R: Files>(
     rt: &R,
     alloc: Global,
@@ -121,6 +127,9 @@ pub(crate) fn read_file<R: Files>(
     name: FileName,
 ) -> Result<Option<Vec<u8>>, Trouble> {
     let place = Place::new(alloc, root, name)?;
+    if !has_folder(rt, place.folder())? {
+        return Ok(None);
+    }
     match look_at(rt, &place.path)? {
         None => Ok(None),
         Some(found) if found.is_file() && found.len() <= length_limit(name) => {

@@ -5,7 +5,7 @@ use hub::HubFault;
 use serving::{Reason, ServingFault};
 use std::alloc::{AllocError, AllocFailed};
 use std::fmt;
-use store_files::StoreFault;
+use store_files::{FileName, StoreFault};
 use store_folder::FolderFault;
 use streams::ServeFault;
 
@@ -28,8 +28,16 @@ pub enum ProgramFault {
     Folder(FolderFault),
     /// No sessions are served over TCP.
     Serving(ServingFault),
-    /// The repository's files are not read, or not made.
+    /// The repository's files are not made, or are not those that can be served.
     Store(StoreFault),
+    /// The repository's files are not read, and this one was read last.
+    Unread(StoreFault, Option<FileName>),
+    /// The repository to copy is not of format 2.
+    NotOfFormatTwo,
+    /// The folder of the copy is not opened.
+    NewFolder(FolderFault),
+    /// The files of the copy are not written.
+    NewStore(StoreFault),
 }
 
 impl ProgramFault {
@@ -51,7 +59,7 @@ fn file_text(fault: FileFault) -> &'static str {
         FileFault::Delta => "X3: a text of the repository is stored as a delta",
         FileFault::Digest => "X4: a file of the repository does not have its digest",
         FileFault::Dangling => "X5: a file of the repository names what is not there",
-        FileFault::WrongFormat => "X6: the folder has no repository of format 2",
+        FileFault::WrongFormat => "X6: the folder has no repository of format 2 or 3",
         FileFault::NoMemory => "no memory",
     }
 }
@@ -95,8 +103,15 @@ impl fmt::Display for ProgramFault {
                 writeln!(f, "svnserved: io")
             }
             ProgramFault::Hub(fault) => writeln!(f, "svnserved: {fault}"),
-            ProgramFault::Folder(fault) => writeln!(f, "svnserved: {}", folder_text(*fault)),
-            ProgramFault::Store(fault) => writeln!(f, "svnserved: {}", store_text(*fault)),
+            ProgramFault::Folder(fault) | ProgramFault::NewFolder(fault) => {
+                writeln!(f, "svnserved: {}", folder_text(*fault))
+            }
+            ProgramFault::Store(fault)
+            | ProgramFault::Unread(fault, _)
+            | ProgramFault::NewStore(fault) => { writeln!(f, "svnserved: {}", store_text(*fault)) }
+            ProgramFault::NotOfFormatTwo => {
+                writeln!(f, "svnserved: X6: the folder has no repository of format 2")
+            }
         }
     }
 }

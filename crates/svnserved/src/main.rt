@@ -2,6 +2,7 @@
 #![tactic(auto)]
 
 mod fault;
+mod migrating;
 mod repositories;
 mod sharing;
 mod told;
@@ -12,6 +13,7 @@ use fault::ProgramFault;
 use filed_opening::FolderRepository;
 use folder_hub::{FolderHub, hub_over};
 use hub::{HubFault, Options, is_repository_name};
+use migrating::migrate_folder;
 use published::NewHistory;
 use repositories::{DiskStore, create_in_folder, empty_hub, open_folder};
 use serving::{Reason, Settings, SystemEnvs, read_settings};
@@ -162,7 +164,10 @@ fn main(rt: HostRuntime) -> ExitCode {
         Err(fault) => return status_of(&rt, Err(fault), Named::nothing()),
     };
     let done = match &order {
-        Order::Create { folder } => create_in_folder(&rt, folder.as_str()),
+        Order::Create { folder, format } => create_in_folder(&rt, folder.as_str(), *format),
+        Order::Migrate { folder, new, quiet } => {
+            migrate_folder(&rt, folder.as_str(), new.as_str(), *quiet)
+        }
         Order::Stdio {
             location,
             name,

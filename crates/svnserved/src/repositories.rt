@@ -6,12 +6,15 @@ ghost use Rattle.filed_world.specs.Files.{filed_content};
 ghost use Rattle.folder_hub.specs.Opening.{IsFoundIn};
 
 use crate::fault::ProgramFault;
+use command_line::NewFormat;
 use filed_opening::{FolderRepository, create, open};
 use folder_hub::{FolderHub, hub_over};
 use hub::Options;
 use rand::rngs::StdRng;
+use repostore::Unopened;
 use serving::moment_now;
 use std::alloc::{AllocError, Global};
+use std::mem::drop;
 use store_files::{MemoryStore, Store};
 use store_folder::FolderStore;
 use uuid::Uuid;
@@ -23,7 +26,7 @@ pub type DiskStore = FolderStore<HostRuntime>;
 const EMPTY_UUID: u128 = 0x0000_0000_0000_4000_8000_0000_0000_0000;
 
 /// Gives the folder of the files of a repository.
-fn files_folder(alloc: Global, folder: &str) -> Result<String, AllocError> {
+pub fn files_folder(alloc: Global, folder: &str) -> Result<String, AllocError> {
     format!(in alloc; "{folder}/db")
 }
 
@@ -35,23 +38,38 @@ fn new_uuid(rt: &HostRuntime) -> Result<u128, ProgramFault> {
     Ok(Uuid::new_v4(&mut words).as_u128())
 }
 
-/// Makes an empty repository in a folder, which is made where it is missing.
-pub fn create_in_folder(rt: &HostRuntime, folder: &str) -> Result<(), ProgramFault> {
+/// Makes an empty repository of a format in a folder, which is made where it is missing.
+pub fn create_in_folder(
+    rt: &HostRuntime,
+    folder: &str,
+    format: NewFormat,
+) -> Result<(), ProgramFault> {
     let uuid = new_uuid(rt)?;
     let mut store: DiskStore = FolderStore::make(*rt, files_folder(rt.alloc(), folder)?)?;
-    create(rt.alloc(), &mut store, uuid, moment_now(rt))?;
+    create(
+        rt.alloc(),
+        &mut store,
+        uuid,
+        moment_now(rt),
+        format.number(),
+    )?;
     Ok(())
 }
 
 /// Opens a repository, which nobody else has.
-fn opened<S: Store>(alloc: Global, store: S) -> Result<FolderRepository<S>, ProgramFault>
+fn opened<S: Store>(alloc: Global, store: S) -> Result<FolderRepository<S>, Unopened<S>>
     requires { S.is_honest store → (f : Folder) → S.may_leave store f → IsSame (S.holds store) f }
     ensures { IfOk result (IsOpened store) }
 {
-    match open(alloc, store) {
-        Ok(stored) => Ok(stored),
-        Err(unopened) => Err(ProgramFault::Store(unopened.fault)),
-    }
+    open(alloc, store)
+}
+
+/// Says why the repository in a folder is not opened, and which of its files was read last.
+fn unread(unopened: Unopened<DiskStore>) -> ProgramFault {
+    let Unopened { fault, store } = unopened;
+    let last = store.last_read();
+    drop(store);
+    ProgramFault::Unread(fault, last)
 }
 
 /// Opens the repository in a folder: whatever files were there, it contains what they stand for, where a read has not
@@ -65,16 +83,19 @@ pub fn open_folder(
         → IsFoundIn (folder_of was) (filed_content stored.repository)) }
 {
     let store = FolderStore::open(*rt, files_folder(rt.alloc(), folder)?)?;
-    opened(rt.alloc(), store)
+    match opened(rt.alloc(), store) {
+        Ok(stored) => Ok(stored),
+        Err(unopened) => Err(unread(unopened)),
+    }
 }
 
 /// Makes a hub over an empty repository in memory.
 pub fn empty_hub(alloc: Global, options: Options) -> Result<FolderHub<MemoryStore>, ProgramFault> {
     let mut store = MemoryStore::new(alloc);
-    create(alloc, &mut store, EMPTY_UUID, 0)?;
+    create(alloc, &mut store, EMPTY_UUID, 0, 3)?;
     store.is_at_rest();
     match opened(alloc, store) {
         Ok(stored) => Ok(hub_over(alloc, stored, options)),
-        Err(fault) => Err(fault),
+        Err(unopened) => Err(ProgramFault::Store(unopened.fault)),
     }
 }

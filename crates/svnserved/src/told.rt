@@ -2,15 +2,17 @@
 
 use crate::fault::ProgramFault;
 use command_line::{Location, Order};
-use serving::ServingFault;
+use fsfs_lines::FileFault;
+use serving::{Reason, ServingFault};
 use std::fmt;
-use store_files::StoreFault;
+use store_files::{FileName, StoreFault};
 use store_folder::FolderFault;
 
 /// What an order names, as the command line has it.
 #[derive(Clone, Copy)]
 pub struct Named<'a> {
     folder: &'a str,
+    new: &'a str,
     name: &'a str,
     listen: &'a str,
     users: &'a str,
@@ -29,6 +31,7 @@ impl<'a> Named<'a> {
     pub fn nothing() -> Self {
         Named {
             folder: "",
+            new: "",
             name: "",
             listen: "",
             users: "",
@@ -39,8 +42,17 @@ impl<'a> Named<'a> {
     pub fn of(order: &'a Order) -> Self {
         let nothing = Named::nothing();
         match order {
-            Order::Create { folder } => Named {
+            Order::Create { folder, format: _ } => Named {
                 folder: folder.as_str(),
+                ..nothing
+            },
+            Order::Migrate {
+                folder,
+                new,
+                quiet: _,
+            } => Named {
+                folder: folder.as_str(),
+                new: new.as_str(),
                 ..nothing
             },
             Order::Stdio {
@@ -54,6 +66,7 @@ impl<'a> Named<'a> {
             },
             Order::Serve(service) => Named {
                 folder: folder_of(&service.location),
+                new: "",
                 name: service.name.as_str(),
                 listen: service.listen.as_str(),
                 users: service.users.as_str(),
@@ -71,59 +84,143 @@ pub struct Told<'a> {
     pub named: Named<'a>,
 }
 
+/// Which of a repository's files is faulty, as far as it is known.
+#[derive(Clone, Copy)]
+enum FaultyFile {
+    One(FileName),
+    OneOf(FileName, FileName),
+}
+
+/// Says which file is faulty, where this one was read last. Those of a revision are judged together, and so are the first
+/// three.
+fn faulty_file(fault: StoreFault, last: FileName) -> FaultyFile {
+    match (fault, last) {
+        (StoreFault::File(FileFault::WrongFormat), _) => FaultyFile::One(FileName::Format),
+        (StoreFault::Device, _) | (_, FileName::Locks) => FaultyFile::One(last),
+        (_, FileName::Revision(shard, number) | FileName::Properties(shard, number)) => {
+            let properties = FileName::Properties(shard, number);
+            FaultyFile::OneOf(FileName::Revision(shard, number), properties)
+        }
+        _ => FaultyFile::OneOf(FileName::Uuid, FileName::Current),
+    }
+}
+
+impl fmt::Display for FaultyFile {
+    fn fmt<W: fmt::Write>(&self, f: &mut fmt::Formatter<W>) -> fmt::Result {
+        match self {
+            FaultyFile::One(name) => write!(f, "db/{name}"),
+            FaultyFile::OneOf(name, other) => write!(f, "db/{name} or db/{other}"),
+        }
+    }
+}
+
 /// What is said where the system gives no random bytes.
 const NO_RANDOM_BYTES: &str = "no random bytes from the system";
 
-impl<'a> Told<'a> {
-    /// Writes where sessions over TCP were not served.
-    fn write_serving<W: fmt::Write>(
-        &self,
-        f: &mut fmt::Formatter<W>,
-        fault: &ServingFault,
-    ) -> fmt::Result {
-        let Named {
-            folder,
-            name,
-            listen,
-            users,
-        } = self.named;
+/// Where a fault was met: words, the name that follows them, which file of it is faulty, and why the system failed there.
+#[derive(Clone, Copy)]
+struct Place<'a> {
+    words: &'static str,
+    name: &'a str,
+    file: Option<FaultyFile>,
+    reason: Option<Reason>,
+}
+
+/// Gives a place where the system gives no reason.
+fn plain_place<'a>(words: &'static str, name: &'a str) -> Option<Place<'a>> {
+    Some(Place {
+        words,
+        name,
+        file: None,
+        reason: None,
+    })
+}
+
+/// Gives a place where the system has failed for this reason.
+fn failed_place<'a>(words: &'static str, name: &'a str, reason: Reason) -> Option<Place<'a>> {
+    Some(Place {
+        words,
+        name,
+        file: None,
+        reason: Some(reason),
+    })
+}
+
+impl<'a> Named<'a> {
+    /// Gives where sessions over TCP were not served.
+    fn place_of_serving(self, fault: &ServingFault) -> Option<Place<'a>> {
         match fault {
-            ServingFault::Name => writeln!(f, "--name is {name}"),
-            ServingFault::Address => writeln!(f, "--listen is {listen}"),
-            ServingFault::Users(_) => writeln!(f, "of the file of users {users}"),
+            ServingFault::Name => plain_place("--name is ", self.name),
+            ServingFault::Address => plain_place("--listen is ", self.listen),
+            ServingFault::Users(_) => plain_place("of the file of users ", self.users),
             ServingFault::UsersFile(reason) => {
-                writeln!(f, "cannot read the file of users {users}: {reason}")
+                failed_place("cannot read the file of users ", self.users, *reason)
             }
-            ServingFault::Listening(reason) => writeln!(f, "cannot listen at {listen}: {reason}"),
-            ServingFault::Thread => writeln!(f, "cannot start a thread"),
-            ServingFault::Random => writeln!(f, "{NO_RANDOM_BYTES}"),
-            ServingFault::Output(reason) => {
-                writeln!(f, "cannot write to standard output: {reason}")
-            }
-            ServingFault::Store(_) => writeln!(f, "in the folder {folder}"),
-            ServingFault::NoMemory => Ok(()),
+            ServingFault::Listening(reason) => failed_place(
+                "cannot listen at ",
+                self.listen,
+                *reason,
+            ),
+            ServingFault::Thread => plain_place("cannot start a thread", ""),
+            ServingFault::Random => plain_place(NO_RANDOM_BYTES, ""),
+            ServingFault::Output(reason) => failed_place(
+                "cannot write to standard output",
+                "",
+                *reason,
+            ),
+            ServingFault::Store(_) => plain_place("in the folder ", self.folder),
+            ServingFault::NoMemory => None,
         }
     }
 
-    /// Writes where the fault was met.
-    fn write_place<W: fmt::Write>(&self, f: &mut fmt::Formatter<W>) -> fmt::Result {
-        let Named { folder, name, .. } = self.named;
-        match self.fault {
-            ProgramFault::Name => writeln!(f, "--name is {name}"),
-            ProgramFault::Random => writeln!(f, "{NO_RANDOM_BYTES}"),
-            ProgramFault::Input(reason) => writeln!(f, "cannot read standard input: {reason}"),
-            ProgramFault::Output(reason) => {
-                writeln!(f, "cannot write to standard output: {reason}")
-            }
-            ProgramFault::Serving(fault) => self.write_serving(f, fault),
+    /// Gives where a fault was met, if it was at something that can be named.
+    fn place_of(self, fault: &ProgramFault) -> Option<Place<'a>> {
+        match fault {
+            ProgramFault::Name => plain_place("--name is ", self.name),
+            ProgramFault::Random => plain_place(NO_RANDOM_BYTES, ""),
+            ProgramFault::Input(reason) => failed_place("cannot read standard input", "", *reason),
+            ProgramFault::Output(reason) => failed_place(
+                "cannot write to standard output",
+                "",
+                *reason,
+            ),
+            ProgramFault::Serving(fault) => self.place_of_serving(fault),
             ProgramFault::Folder(FolderFault::NoMemory)
             | ProgramFault::Store(StoreFault::NoMemory)
+            | ProgramFault::Unread(StoreFault::NoMemory, _)
+            | ProgramFault::NewFolder(FolderFault::NoMemory)
+            | ProgramFault::NewStore(StoreFault::NoMemory)
             | ProgramFault::CommandLine(_)
-            | ProgramFault::Hub(_) => Ok(()),
-            ProgramFault::Folder(FolderFault::Missing) | ProgramFault::Store(_) => {
-                writeln!(f, "in the folder {folder}")
-            }
-            ProgramFault::Folder(_) => writeln!(f, "the folder is {folder}"),
+            | ProgramFault::Hub(_) => None,
+            ProgramFault::Folder(FolderFault::Missing)
+            | ProgramFault::Store(_)
+            | ProgramFault::Unread(_, None)
+            | ProgramFault::NotOfFormatTwo => plain_place("in the folder ", self.folder),
+            ProgramFault::Unread(fault, Some(last)) => Some(Place {
+                words: "in the folder ",
+                name: self.folder,
+                file: Some(faulty_file(*fault, *last)),
+                reason: None,
+            }),
+            ProgramFault::Folder(_) => plain_place("the folder is ", self.folder),
+            ProgramFault::NewStore(_) => plain_place("in the folder ", self.new),
+            ProgramFault::NewFolder(_) => plain_place("the folder is ", self.new),
+        }
+    }
+}
+
+impl fmt::Display for Place<'_> {
+    fn fmt<W: fmt::Write>(&self, f: &mut fmt::Formatter<W>) -> fmt::Result {
+        let Place {
+            words,
+            name,
+            file,
+            reason,
+        } = self;
+        match (file, reason) {
+            (Some(file), _) => writeln!(f, "{words}{name}, at {file}"),
+            (None, Some(reason)) => writeln!(f, "{words}{name}: {reason}"),
+            (None, None) => writeln!(f, "{words}{name}"),
         }
     }
 }
@@ -131,6 +228,9 @@ impl<'a> Told<'a> {
 impl fmt::Display for Told<'_> {
     fn fmt<W: fmt::Write>(&self, f: &mut fmt::Formatter<W>) -> fmt::Result {
         write!(f, "{}", self.fault)?;
-        self.write_place(f)
+        match self.named.place_of(self.fault) {
+            Some(place) => write!(f, "{place}"),
+            None => Ok(()),
+        }
     }
 }

@@ -9,7 +9,7 @@ use std::os::unix::fs::FileExt;
 use std::{fmt, io};
 
 /// Which repositories it serves.
-const REPOSITORIES: &str = "reads and writes repositories in format 2";
+const REPOSITORIES: &str = "reads and writes repositories in formats 2 and 3";
 
 /// The file that the program was started from.
 const PROGRAM: &str = "/proc/self/exe";

@@ -1,8 +1,8 @@
 ghost use Rattle.std.specs.Prelude.{◌≤◌, length};
 
 use std::alloc::Global;
+use std::process::Abort;
 use std::sync::Arc;
-use std::test::*;
 use svndiff0::{Applier, DiffFault, encode_full};
 
 const HELLO: &[u8] = b"hello\n";
@@ -36,10 +36,11 @@ fn is_shared(text: Result<&[u8], DiffFault>, shared: &Result<Arc<Vec<u8>>, DiffF
 
 /// Feeds a document in one piece up to the byte `cut`, and byte by byte from there. The text is shared at the cut too,
 /// and held while more is fed.
-fn apply(alloc: Global, base: &[u8], document: &[u8], cut: usize) -> Result<Applied, Fail>
+fn apply(rt: &impl Abort, alloc: Global, base: &[u8], document: &[u8], cut: usize) -> Applied
     requires { cut ≤ length document.now }
 {
-    let base = Arc::new(alloc, Vec::from_slice(alloc, base)?)?;
+    let base = Vec::from_slice(alloc, base).expect(rt, "memory");
+    let base = Arc::new(alloc, base).expect(rt, "memory");
     let mut applier = Applier::new(alloc, base);
     let (front, back) = document.split_at(cut);
     let mut first = applier.feed(front).err().map(|fault| (0usize, fault));
@@ -53,11 +54,11 @@ fn apply(alloc: Global, base: &[u8], document: &[u8], cut: usize) -> Result<Appl
     }
     let shared = applier.share_text();
     is_steady &= is_shared(applier.text(), &shared);
-    Ok(Applied {
+    Applied {
         at: first.map(|(at, _)| at),
         text: shared,
         is_steady,
-    })
+    }
 }
 
 /// Says whether a document that was cut at this byte gave the wanted text without a fault, or the wanted fault. Fed
@@ -79,229 +80,209 @@ fn is_wanted(
 }
 
 /// Says whether the document gives what the row says, at whatever byte it is cut.
-fn is_row(alloc: Global, row: Row) -> Result<bool, Fail> {
-    let (base, document, want) = row;
+fn is_row(rt: &impl Abort, alloc: Global, row: &Row) -> bool {
+    let (base, document, want) = *row;
+    let mut is_right = true;
     for cut in 0..=document.len() {
-        let applied = apply(alloc, base, document, cut)?;
-        if !is_wanted(&applied, want, cut) {
-            return Ok(false);
-        }
+        is_right = is_right && is_wanted(&apply(rt, alloc, base, document, cut), want, cut);
     }
-    Ok(true)
+    is_right
 }
 
 /// Says whether each document gives what its row says.
-fn are_rows(alloc: Global, rows: &[Row]) -> Result<bool, Fail> {
+fn are_rows(rt: &impl Abort, alloc: Global, rows: &[Row]) -> bool {
+    let mut are_right = true;
     for row in rows {
-        if !is_row(alloc, *row)? {
-            return Ok(false);
-        }
+        are_right &= is_row(rt, alloc, row);
     }
-    Ok(true)
+    are_right
 }
+
+static DOCUMENTS: [Row; 10] = [
+    (b"", b"SVN\0\0\0\x06\x01\x06\x86hello\n", Ok(HELLO)),
+    (
+        b"",
+        b"SVN\0\0\0\x06\x01\x06\x46hello\n",
+        Err((DiffFault::TargetCopy, Some(15))),
+    ),
+    (
+        b"",
+        b"SVN\0\0\0\x06\x01\x06\x06hello\n",
+        Err((DiffFault::BadInstruction, Some(15))),
+    ),
+    (
+        b"",
+        b"SVN\0\0\0\x07\x01\x06\x86hello\n",
+        Err((DiffFault::LengthsDisagree, Some(15))),
+    ),
+    (b"", b"SVN\0", Ok(b"")),
+    (b"", b"SVN", Err((DiffFault::Truncated, None))),
+    (b"", b"SVN\x01", Err((DiffFault::BadHeader, Some(3)))),
+    (
+        HELLO,
+        b"SVN\0\0\x06\x08\x05\x02\x04\0\x82\x02\x04XY",
+        Ok(b"hellXYo\n"),
+    ),
+    (
+        b"hello",
+        b"SVN\0\0\x06\x08\x05\x02\x04\0\x82\x02\x04XY",
+        Err((DiffFault::ViewBeyondBase, Some(8))),
+    ),
+    (
+        HELLO,
+        b"SVN\0\0\x06\x08\x05\x02\x04\0\x82\x03\x04XY",
+        Err((DiffFault::CopyBeyondView, Some(15))),
+    ),
+];
 
 #[test]
-fn documents(rt: HostRuntime) -> Result<(), Fail> {
-    let rows: [Row; 10] = [
-        (b"", b"SVN\0\0\0\x06\x01\x06\x86hello\n", Ok(HELLO)),
-        (
-            b"",
-            b"SVN\0\0\0\x06\x01\x06\x46hello\n",
-            Err((DiffFault::TargetCopy, Some(15))),
-        ),
-        (
-            b"",
-            b"SVN\0\0\0\x06\x01\x06\x06hello\n",
-            Err((DiffFault::BadInstruction, Some(15))),
-        ),
-        (
-            b"",
-            b"SVN\0\0\0\x07\x01\x06\x86hello\n",
-            Err((DiffFault::LengthsDisagree, Some(15))),
-        ),
-        (b"", b"SVN\0", Ok(b"")),
-        (b"", b"SVN", Err((DiffFault::Truncated, None))),
-        (b"", b"SVN\x01", Err((DiffFault::BadHeader, Some(3)))),
-        (
-            HELLO,
-            b"SVN\0\0\x06\x08\x05\x02\x04\0\x82\x02\x04XY",
-            Ok(b"hellXYo\n"),
-        ),
-        (
-            b"hello",
-            b"SVN\0\0\x06\x08\x05\x02\x04\0\x82\x02\x04XY",
-            Err((DiffFault::ViewBeyondBase, Some(8))),
-        ),
-        (
-            HELLO,
-            b"SVN\0\0\x06\x08\x05\x02\x04\0\x82\x03\x04XY",
-            Err((DiffFault::CopyBeyondView, Some(15))),
-        ),
-    ];
-    assert!(rt; are_rows(rt.alloc(), &rows)?);
-    Ok(())
+fn documents(rt: HostRuntime) {
+    assert!(rt; are_rows(&rt, rt.alloc(), &DOCUMENTS));
 }
+
+static WINDOWS: [Row; 12] = [
+    // the second window lies before the first
+    (
+        b"abcdef",
+        b"SVN\0\x03\x03\x03\x02\0\x03\0\0\x03\x03\x02\0\x03\0",
+        Ok(b"defabc"),
+    ),
+    // an empty view at the base's end
+    (b"abc", b"SVN\0\x03\0\x01\x01\x01\x81x", Ok(b"x")),
+    (
+        b"abc",
+        b"SVN\0\x01\x03\x03\x02\0",
+        Err((DiffFault::ViewBeyondBase, Some(8))),
+    ),
+    // the length 1 as an integer of two bytes
+    (b"", b"SVN\0\0\0\x01\x03\x01\x80\x80\x01x", Ok(b"x")),
+    // instructions cut by the end of their section
+    (
+        b"",
+        b"SVN\0\0\0\x01\x01\x01\x80x",
+        Err((DiffFault::BadInstruction, Some(10))),
+    ),
+    (
+        b"abc",
+        b"SVN\0\0\x03\x01\x01\0\x01",
+        Err((DiffFault::BadInstruction, Some(9))),
+    ),
+    (
+        b"",
+        b"SVN\0\0\0\0\x02\0\x80\0",
+        Err((DiffFault::BadInstruction, Some(10))),
+    ),
+    (
+        b"",
+        b"SVN\0\0\0\x01\x01\x01\xC1x",
+        Err((DiffFault::BadInstruction, Some(10))),
+    ),
+    // new data left over, and too little of it
+    (
+        b"",
+        b"SVN\0\0\0\x01\x01\x02\x81xy",
+        Err((DiffFault::LengthsDisagree, Some(11))),
+    ),
+    (
+        b"",
+        b"SVN\0\0\0\x02\x01\x01\x82x",
+        Err((DiffFault::LengthsDisagree, Some(10))),
+    ),
+    // a later instruction's fault comes before lengths that disagree
+    (
+        b"",
+        b"SVN\0\0\0\x02\x02\x01\x82\x41x",
+        Err((DiffFault::TargetCopy, Some(11))),
+    ),
+    (
+        b"",
+        b"SVN\0\0\0\x01\x01\x01\x81",
+        Err((DiffFault::Truncated, None)),
+    ),
+];
 
 #[test]
-fn windows(rt: HostRuntime) -> Result<(), Fail> {
-    let rows: [Row; 12] = [
-        // the second window lies before the first
-        (
-            b"abcdef",
-            b"SVN\0\x03\x03\x03\x02\0\x03\0\0\x03\x03\x02\0\x03\0",
-            Ok(b"defabc"),
-        ),
-        // an empty view at the base's end
-        (b"abc", b"SVN\0\x03\0\x01\x01\x01\x81x", Ok(b"x")),
-        (
-            b"abc",
-            b"SVN\0\x01\x03\x03\x02\0",
-            Err((DiffFault::ViewBeyondBase, Some(8))),
-        ),
-        // the length 1 as an integer of two bytes
-        (b"", b"SVN\0\0\0\x01\x03\x01\x80\x80\x01x", Ok(b"x")),
-        // instructions cut by the end of their section
-        (
-            b"",
-            b"SVN\0\0\0\x01\x01\x01\x80x",
-            Err((DiffFault::BadInstruction, Some(10))),
-        ),
-        (
-            b"abc",
-            b"SVN\0\0\x03\x01\x01\0\x01",
-            Err((DiffFault::BadInstruction, Some(9))),
-        ),
-        (
-            b"",
-            b"SVN\0\0\0\0\x02\0\x80\0",
-            Err((DiffFault::BadInstruction, Some(10))),
-        ),
-        (
-            b"",
-            b"SVN\0\0\0\x01\x01\x01\xC1x",
-            Err((DiffFault::BadInstruction, Some(10))),
-        ),
-        // new data left over, and too little of it
-        (
-            b"",
-            b"SVN\0\0\0\x01\x01\x02\x81xy",
-            Err((DiffFault::LengthsDisagree, Some(11))),
-        ),
-        (
-            b"",
-            b"SVN\0\0\0\x02\x01\x01\x82x",
-            Err((DiffFault::LengthsDisagree, Some(10))),
-        ),
-        // a later instruction's fault comes before lengths that disagree
-        (
-            b"",
-            b"SVN\0\0\0\x02\x02\x01\x82\x41x",
-            Err((DiffFault::TargetCopy, Some(11))),
-        ),
-        (
-            b"",
-            b"SVN\0\0\0\x01\x01\x01\x81",
-            Err((DiffFault::Truncated, None)),
-        ),
-    ];
-    assert!(rt; are_rows(rt.alloc(), &rows)?);
-    Ok(())
+fn windows(rt: HostRuntime) {
+    assert!(rt; are_rows(&rt, rt.alloc(), &WINDOWS));
 }
+
+static LIMITS: [Row; 9] = [
+    (
+        b"",
+        b"SVN\0\x81\x81\x81\x81\x81\x81\x81\x81\x81",
+        Err((DiffFault::Truncated, None)),
+    ),
+    (
+        b"",
+        b"SVN\0\x81\x81\x81\x81\x81\x81\x81\x81\x81\x81",
+        Err((DiffFault::TooLarge, Some(13))),
+    ),
+    (
+        b"",
+        b"SVN\0\x81\x81\x81\x81\x81\x81\x81\x81\x01\0\0\0\0",
+        Err((DiffFault::ViewBeyondBase, Some(16))),
+    ),
+    // 16,777,216 bytes may be announced, 16,777,217 may not
+    (
+        b"",
+        b"SVN\0\0\0\x88\x80\x80\0\x88\x80\x80\0\x88\x80\x80\0",
+        Err((DiffFault::Truncated, None)),
+    ),
+    (
+        b"",
+        b"SVN\0\0\0\x88\x80\x80\x01",
+        Err((DiffFault::TooLarge, Some(9))),
+    ),
+    (
+        b"",
+        b"SVN\0\0\0\0\x88\x80\x80\x01",
+        Err((DiffFault::TooLarge, Some(10))),
+    ),
+    (
+        b"",
+        b"SVN\0\0\0\0\0\x88\x80\x80\x01",
+        Err((DiffFault::TooLarge, Some(11))),
+    ),
+    // the whole text would have 16,777,217
+    (
+        b"",
+        b"SVN\0\0\0\x01\x01\x01\x81x\0\0\x88\x80\x80\0",
+        Err((DiffFault::TooLarge, Some(16))),
+    ),
+    // an instruction's integer of ten bytes
+    (
+        b"",
+        b"SVN\0\0\0\x01\x0B\0\x80\x81\x81\x81\x81\x81\x81\x81\x81\x81\x81",
+        Err((DiffFault::TooLarge, Some(19))),
+    ),
+];
 
 #[test]
-fn limits(rt: HostRuntime) -> Result<(), Fail> {
-    let rows: [Row; 9] = [
-        (
-            b"",
-            b"SVN\0\x81\x81\x81\x81\x81\x81\x81\x81\x81",
-            Err((DiffFault::Truncated, None)),
-        ),
-        (
-            b"",
-            b"SVN\0\x81\x81\x81\x81\x81\x81\x81\x81\x81\x81",
-            Err((DiffFault::TooLarge, Some(13))),
-        ),
-        (
-            b"",
-            b"SVN\0\x81\x81\x81\x81\x81\x81\x81\x81\x01\0\0\0\0",
-            Err((DiffFault::ViewBeyondBase, Some(16))),
-        ),
-        // 16,777,216 bytes may be announced, 16,777,217 may not
-        (
-            b"",
-            b"SVN\0\0\0\x88\x80\x80\0\x88\x80\x80\0\x88\x80\x80\0",
-            Err((DiffFault::Truncated, None)),
-        ),
-        (
-            b"",
-            b"SVN\0\0\0\x88\x80\x80\x01",
-            Err((DiffFault::TooLarge, Some(9))),
-        ),
-        (
-            b"",
-            b"SVN\0\0\0\0\x88\x80\x80\x01",
-            Err((DiffFault::TooLarge, Some(10))),
-        ),
-        (
-            b"",
-            b"SVN\0\0\0\0\0\x88\x80\x80\x01",
-            Err((DiffFault::TooLarge, Some(11))),
-        ),
-        // the whole text would have 16,777,217
-        (
-            b"",
-            b"SVN\0\0\0\x01\x01\x01\x81x\0\0\x88\x80\x80\0",
-            Err((DiffFault::TooLarge, Some(16))),
-        ),
-        // an instruction's integer of ten bytes
-        (
-            b"",
-            b"SVN\0\0\0\x01\x0B\0\x80\x81\x81\x81\x81\x81\x81\x81\x81\x81\x81",
-            Err((DiffFault::TooLarge, Some(19))),
-        ),
-    ];
-    assert!(rt; are_rows(rt.alloc(), &rows)?);
-    Ok(())
-}
-
-/// Says whether this document is that of this text.
-fn is_document(alloc: Global, text: &[u8], document: &[u8]) -> Result<bool, Fail> {
-    let found = encode_full(alloc, text)?;
-    Ok(found.as_slice() == document)
+fn limits(rt: HostRuntime) {
+    assert!(rt; are_rows(&rt, rt.alloc(), &LIMITS));
 }
 
 /// Says whether the document of this text gives it.
-fn is_read_again(alloc: Global, text: &[u8]) -> Result<bool, Fail> {
-    let document = encode_full(alloc, text)?;
+fn is_read_again(rt: &impl Abort, alloc: Global, text: &[u8]) -> bool {
+    let document = encode_full(alloc, text).expect(rt, "memory");
     let cut = document.len() / 2;
-    let applied = apply(alloc, b"base", document.as_slice(), cut)?;
-    Ok(
-        applied.is_steady
-            && applied
-                .text
-                .as_ref()
-                .is_ok_and(|again| again.as_slice() == text),
-    )
+    let applied = apply(rt, alloc, b"base", document.as_slice(), cut);
+    is_wanted(&applied, Ok(text), cut)
 }
 
-/// Says whether the documents of texts of these sizes give them.
-fn are_read_again(alloc: Global, sizes: &[usize]) -> Result<bool, Fail> {
-    for size in sizes {
-        let text = vec![in alloc; 7u8; *size]?;
-        if !is_read_again(alloc, text.as_slice())? {
-            return Ok(false);
-        }
-    }
-    Ok(true)
-}
+/// Sizes of texts whose documents are read again.
+static SIZES: [usize; 12] = [
+    0, 1, 63, 64, 127, 128, 16_383, 16_384, 65_535, 65_536, 65_537, 200_000,
+];
 
 #[test]
-fn full(rt: HostRuntime) -> Result<(), Fail> {
+fn full(rt: HostRuntime) {
     let alloc = rt.alloc();
-    assert!(rt; is_document(alloc, HELLO, b"SVN\0\0\0\x06\x01\x06\x86hello\n")?);
-    let sizes = [
-        0, 1, 63, 64, 127, 128, 16_383, 16_384, 65_535, 65_536, 65_537, 200_000,
-    ];
-    assert!(rt; are_read_again(alloc, &sizes)?);
-    Ok(())
+    let document = encode_full(alloc, HELLO).expect(&rt, "memory");
+    let mut are_right = document.as_slice() == b"SVN\0\0\0\x06\x01\x06\x86hello\n".as_slice();
+    for size in SIZES.iter() {
+        let text = vec![in alloc; 7u8; *size].expect(&rt, "memory");
+        are_right &= is_read_again(&rt, alloc, text.as_slice());
+    }
+    assert!(rt; are_right);
 }

@@ -4,7 +4,11 @@
 #[cfg(test)]
 mod challenges;
 #[cfg(test)]
+mod command_lines;
+#[cfg(test)]
 mod deltas;
+#[cfg(test)]
+mod moments;
 #[cfg(test)]
 mod paths;
 #[cfg(test)]

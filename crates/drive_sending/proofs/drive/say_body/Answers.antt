@@ -10,7 +10,7 @@ use Rattle.drive_sending.proofs.drive.say_body.Goals as goal
 pub returns-in_err-say_root : goal.returns-in_err-say_root
 returns-in_err-say_root g c =
     let p = err_from_is_err_and c.from_residual.result c.from_residual.ensures.1 in
-    let v = some_visits (g.R.Repository.content c.args.trees.now.view.now) (whole c.args.trees.now.report.now c.args.trees.now.root) c.args.visitor.now.open.items in
+    let v = some_visits (g.R.Repository.content c.args.trees.now.view.now) (whole c.args.trees.now.report.now c.args.trees.now.root) c.args.visitor.now in
     rw (p.1) (
       v.0,
       v.1,

@@ -9,7 +9,7 @@ use Rattle.drive_sending.specs.Commands.{drive_of}
 pub returns-in_err-say_new : goal.returns-in_err-say_new
 returns-in_err-say_new g c =
     let p = err_from_is_err_and c.from_residual.result c.from_residual.ensures.1 in
-    let v = some_visits (g.R.Repository.content c.args.trees.now.view.now) (whole c.args.trees.now.report.now c.args.trees.now.root) c.args.visitor.now.open.items in
+    let v = some_visits (g.R.Repository.content c.args.trees.now.view.now) (whole c.args.trees.now.report.now c.args.trees.now.root) c.args.visitor.now in
     rw (p.1) (
       v.0,
       v.1,

@@ -1,6 +1,7 @@
-use Rattle.std.proofs.Common.{None, ap, ◌∙◌}
+use Rattle.std.proofs.Common.{None, Some, option_and_then, ap, ◌∙◌}
+use Rattle.fsfs_format.specs.Formats.{format_of}
 use Rattle.store_files.specs.declared.name.FileName.TheVariants.{Locks}
-use Rattle.repostore.proofs.Steps.{weaker, ok_gives}
+use Rattle.repostore.proofs.{Reaching.format_is, Steps.{weaker, ok_gives}}
 use Rattle.repostore.specs.{Creating.{IsFreeOrHas, opening_files}, Current.count_in, Files.Files}
 use Rattle.filed_opening.specs.Creating.{IsFreeOrNew}
 use Rattle.filed_opening.proofs.Created.{has_new, has_new_at, free_or_new}
@@ -47,3 +48,14 @@ returns-clause-leaves g c = λ honest stands.
 
 pub returns-clause-again : goal.returns-clause-again
 returns-clause-again g c = λ locks honest stands. (c.create.ensures.creates locks honest stands).again
+
+pub returns-clause-format : goal.returns-clause-format
+returns-clause-format g c = λ honest.
+    let s = g.S.Store in
+    let made = c.in_ok-filed.ensures in
+    let files = opening_files c.opening.result (s.holds c.args.store.now Locks) in
+    ok_gives c.create.result (λ has.
+    ap (option_and_then format_of) (format_is (s.holds c.create.new.store) files has)
+    ∙ ap (λ (fs : Files). option_and_then format_of fs.format) c.opening.ensures
+    ∙ made.format ∙ ap Some c.new_format.ensures)
+    (c.create.ensures.made honest (ap (λ (fs : Files). count_in fs.current) c.opening.ensures ∙ made.count))

@@ -1,5 +1,4 @@
 use Rattle.std.proofs.Common.{suc, [], Some, None, refl, sym, ap, subst, ◌∙◌, length}
-use Rattle.std.specs.Prelude.{codes}
 use Rattle.repo_api.specs.States.{RepoState}
 use Rattle.repostore.specs.{Files.Files, Reading.with_one_more}
 use Rattle.filed_world.specs.{Reading.{AreFirst, HasRead}, Creating.new_files}
@@ -11,7 +10,7 @@ returns-in-Ok-with_read_revision-clause-files c = λ uuid date same.
     let files = c.args.files.now in
     let made = c.in-Ok-with_read_revision.made in
     let head : Files = record {
-      format = Some (codes "2\n");
+      format = Some files.format.items;
       uuid = files.uuid.items;
       current = files.current.items;
       revisions = [];
@@ -19,7 +18,7 @@ returns-in-Ok-with_read_revision-clause-files c = λ uuid date same.
     } in
     let first : AreFirst uuid c.args.current head = record {
       head = record {
-        format = refl;
+        format = c.requires.format;
         uuid_is = c.requires.uuid_is ∙ ap (λ (r : RepoState). Some r.uuid) same;
         current_is = c.requires.current_is;
         count = c.requires.count ∙ ap (λ n. Some (suc n)) (sym c.requires.youngest);

@@ -1,6 +1,7 @@
 use Rattle.std.proofs.Common.{◌∙◌, sym, ap}
 use Rattle.repo_api.specs.Histories.{history_of}
-use Rattle.history.specs.{Traces.traced, Logs.listed}
+use Rattle.traces.specs.Traces.{traced}
+use Rattle.history.specs.Logs.{listed}
 use Rattle.history.proofs.Steps.{nothing_listed_below}
 use Rattle.history.proofs.walk.next_listed.Goals as goal
 

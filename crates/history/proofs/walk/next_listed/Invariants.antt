@@ -1,7 +1,8 @@
 -- What the log lists from the place on is what it lists from the start on.
 use Rattle.std.proofs.Common.{◌≡◌, ℕ, Option, Some, None, suc}
 use Rattle.repo_api.specs.Histories.{history_of}
-use Rattle.history.specs.{Traces.traced, Logs.listed, declared.place.Place.Place}
+use Rattle.traces.specs.{Traces.traced, declared.place.Place.Place}
+use Rattle.history.specs.Logs.{listed}
 use Rattle.history.proofs.walk.next_listed.Given as goal
 
 abbrev pub invariant-loop-place : goal.invariant-loop-place

@@ -1,12 +1,12 @@
--- Nothing that goes is left, and what is left now may follow what was left before.
+-- Nothing that goes is left, and, if what was remembered is so, then what is remembered is, and what is left now may follow what was left before.
 use Rattle.std.proofs.Common.{◌≡◌, List, [], length}
-use Rattle.reporter.specs.{Left.IsLeftIn, declared.visit.Visit.Visit}
+use Rattle.reporter.specs.{Left.IsLeftIn, Remembered.IfRemembers, declared.visit.Visit.Visit}
 use Rattle.reporter.proofs.making.next_entry.Given as goal
 
 abbrev pub invariant-loop-path : goal.invariant-loop-path
 invariant-loop-path g l =
     (l.here.deletes.items ≡ [])
-    × ((vs : List Visit) → IsLeftIn (g.S.Sides.trees l.sides) l.here vs → IsLeftIn (g.S.Sides.trees l.sides) l.fn.here vs)
+    × IfRemembers (g.S.Sides.trees l.sides) l.fn.memory l.memory ((vs : List Visit) → IsLeftIn (g.S.Sides.trees l.sides) l.here vs → IsLeftIn (g.S.Sides.trees l.sides) l.fn.here vs)
 
 abbrev pub decreases-loop-path : goal.decreases-loop-path
 decreases-loop-path g l = length l.here.entries.items

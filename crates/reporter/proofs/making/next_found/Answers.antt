@@ -4,8 +4,11 @@ use Rattle.reporter.proofs.making.next_found.Goals as goal
 
 pub returns : goal.returns
 returns g c =
-    IfOk-weaker c.next_entry.result _ _ (λ found goes_on. record {
-      next = λ vs more is left. subst (λ ds. LeftOf (g.S.Sides.trees c.args.sides.now) ds c.args.here.now.is_anew c.args.here.now.entries.items (vs ++ more)) (sym c.in_default.ensures.items) (goes_on.next vs more is left);
-      end = λ none. subst (λ ds. LeftOf (g.S.Sides.trees c.args.sides.now) ds c.args.here.now.is_anew c.args.here.now.entries.items []) (sym c.in_default.ensures.items) (goes_on.end none);
-    })
+    IfOk-weaker c.next_entry.result _ _ (λ found goes_on. λ so. (
+      (goes_on so).0,
+      record {
+        next = λ vs more is left. subst (λ ds. LeftOf (g.S.Sides.trees c.args.sides.now) ds c.args.here.now.is_anew c.args.here.now.entries.items (vs ++ more)) (sym c.in_default.ensures.items) ((goes_on so).1.next vs more is left);
+        end = λ none. subst (λ ds. LeftOf (g.S.Sides.trees c.args.sides.now) ds c.args.here.now.is_anew c.args.here.now.entries.items []) (sym c.in_default.ensures.items) ((goes_on so).1.end none);
+      },
+    ))
     c.next_entry.ensures

@@ -1,15 +1,21 @@
 use Rattle.std.proofs.Common.{◌+◌, ◌*◌, ◌-◌, length, take}
+use Rattle.reporter.specs.Remembered.{IfRemembers}
 use Rattle.reporter.proofs.Reasons.{SaysNothing}
 use Rattle.reporter.proofs.searching.+searching.Given as goal
 
 abbrev pub decreases-is_named : goal.decreases-is_named
-decreases-is_named g l = 3 * (g.S.Sides.bound l.sides.now + 1 - length l.path.now) + 2
+decreases-is_named g l = 4 * (g.S.Sides.bound l.sides.now + 1 - length l.path.now) + 3
 
 abbrev pub decreases-has_news : goal.decreases-has_news
-decreases-has_news g l = 3 * (g.S.Sides.bound l.sides.now + 1 - length l.path.now) + 1
+decreases-has_news g l = 4 * (g.S.Sides.bound l.sides.now + 1 - length l.path.now) + 2
+
+abbrev pub decreases-has_new_news : goal.decreases-has_new_news
+decreases-has_new_news g l = 4 * (g.S.Sides.bound l.sides.now + 1 - length l.path.now) + 1
 
 abbrev pub decreases-has_news_below : goal.decreases-has_news_below
-decreases-has_news_below g l = 3 * (g.S.Sides.bound l.sides.now + 1 - length l.path.now)
+decreases-has_news_below g l = 4 * (g.S.Sides.bound l.sides.now + 1 - length l.path.now)
 
+-- what is remembered is so, if it was before, and nothing is said so far
 abbrev pub invariant-has_news_below-loop-child : goal.invariant-has_news_below-loop-child
-invariant-has_news_below-loop-child g l = SaysNothing (g.S.Sides.trees l.sides) (take l.child-index l.child-items)
+invariant-has_news_below-loop-child g l =
+    IfRemembers (g.S.Sides.trees l.sides) l.fn.memory l.memory (SaysNothing (g.S.Sides.trees l.sides) (take l.child-index l.child-items))

@@ -1,5 +1,5 @@
 use Rattle.seat_rows.proofs.properties.of_two_that_have_seen_one_value_one_changes_it.Given as goal
 
 -- the history that was just opened
-abbrev pub ghosts-change_both_in_memory : goal.ghosts-change_both_in_memory
-ghosts-change_both_in_memory g a = record { book = a.history.seen.book }
+abbrev pub ghosts-is_played_over : goal.ghosts-is_played_over
+ghosts-is_played_over g a = record { book = a.history.seen.book }

@@ -11,5 +11,6 @@ returns g c = λ all.
     (rw c.in-Some.is at c.in_ok-client_place.ensures).beneath
     (sym c.has_beneath.ensures ∙ c.if-has_beneath.false)
     (c.has_same.ensures all).0
-    (subst (λ goal_at. IsSameAt (g.R.Repository.content c.args.self.now.view.now) c.in-Some.place.revision c.in-Some.place.path c.args.self.now.report.now.ask.revision goal_at) c.in_ok-goal.ensures (c.has_same.ensures all).1)
-    (ap (is_at_or_under c.args.path.now) (sym c.as_path.ensures.path) ∙ sym c.is_at_or_under.ensures.value ∙ c.if-not-is_at_or_under.false) (sym c.in_ok-is_stale.ensures ∙ c.if-branch.false)
+    (c.has_same.ensures all).1
+    (ap (is_at_or_under c.args.path.now) (sym c.as_path.ensures.path) ∙ sym c.is_at_or_under.ensures.value ∙ c.if-not-is_at_or_under.false)
+    (subst (λ goal_at. IsSameAt (g.R.Repository.content c.args.self.now.view.now) c.in-Some.place.revision c.in-Some.place.path c.args.self.now.report.now.ask.revision goal_at) c.in_ok-goal.ensures (c.has_same.ensures all).2)

@@ -1,4 +1,4 @@
-use Rattle.std.proofs.Common.{◌≡◌, ◌+◌, Some, length, sym, ap, subst, ◌∙◌, ◌<◌, ◌∷◌, [], ◌++◌, arith}
+use Rattle.std.proofs.Common.{◌≡◌, ◌+◌, Some, length, refl, sym, ap, subst, ◌∙◌, ◌<◌, ◌∷◌, [], ◌++◌, arith}
 use Rattle.std.specs.{List.Sorted.IsStrictlySortedBy, Map.keys_of, Prelude.slice_get}
 use Rattle.svnpath.specs.Paths.{path_cmp}
 use Rattle.repostore.specs.Files.{with_revision}
@@ -27,9 +27,9 @@ returns-clause-files c = λ files is.
     let held = old.world.held.value in
     let new = c.args.world in
     let next : Current = record {
+      format = old.current.format;
       youngest = c.len-2.result;
-      node = c.in_ok-written.written.current.node;
-      copy = c.in_ok-written.written.current.copy;
+      ids = c.in_ok-written.written.ids;
     } in
     let file = c.in_ok-written.written.file.items in
     let properties = c.in_ok-properties.properties.items in
@@ -51,7 +51,7 @@ returns-clause-files c = λ files is.
     (omega (arith, some, is.tabled.all, is.tabled.tabled)) made in
     let are = revision_added held old.world.locks.value old.tables old.current files is
     new.held.value c.in-Some.list.now table next file properties says c.requires.uuid c.requires.list
-    at made history c.in_ok-properties.ensures
+    at made history c.in_ok-properties.ensures refl
     c.in_ok-current_file.ensures.read c.len-2.ensures.length in (
       subst (λ ls. AreFilesOf new.held.value ls c.in_ok-tables.tables next after)
           (sym c.requires.locks)

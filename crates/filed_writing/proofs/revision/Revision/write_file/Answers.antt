@@ -1,21 +1,22 @@
 use Rattle.std.proofs.Common.{◌≡◌, ◌-◌, ◌++◌, [], ℕ, List, Some, map, reverse, length, rules, ap, sym, subst, ◌∙◌}
 use Rattle.std.proofs.lemmas.List.{length-map}
 use Rattle.std.specs.Prelude.{slice_get}
-use Rattle.filed_writing.specs.declared.copies.Origin.{Origin}
-use Rattle.fsfs_folder.specs.declared.current.Current.{Current}
+use Rattle.filed_writing.specs.{declared.copies.Origin.Origin, declared.counter.Counter.Counter}
 use Rattle.fsfs_ids.specs.declared.id.FileId.{FileId}
 use Rattle.fsfs_parts.specs.{Changes.changes_bytes, Trailers.trailer_bytes}
 use Rattle.fsfs_writing.specs.Files.{Piece}
-use Rattle.filed_writing.specs.{Drafts.{comes_of, copy_from}, Layout.{ListsChanges, all_come, copies_of, nodes_of, pieces_of}, Pieces.ids_of}
+use Rattle.filed_writing.specs.{Drafts.{comes_of, copy_from}, Layout.{ListsChanges, all_come, copies_of, next_after_all, nodes_of, pieces_of}, Pieces.{counter_in, ids_after, ids_of}}
 use Rattle.filed_writing.proofs.revision.Revision.write_file.Goals as goal
 
 pub returns : goal.returns
 returns c =
     let r = c.args.self in
-    let next = c.args.current in
+    let ids = c.args.ids in
+    let next : Counter = counter_in ids r.number in
+    let begun : c.new-next.result ≡ next = c.new-next.ensures in
     let written = c.in_ok-file.written.items in
     let made = c.in_ok-file.ensures in
-    let come : map comes_of c.in_ok-origins.origins.items ≡ all_come r (nodes_of r) next = c.in_ok-origins.ensures.all in
+    let come : map comes_of c.in_ok-origins.origins.items ≡ all_come r (nodes_of r) next = c.in_ok-origins.ensures.all ∙ ap (all_come r (nodes_of r)) begun in
     let first : map comes_of c.as_slice.result.now ≡ all_come r (nodes_of r) next =
     ap (λ (l : List Origin). map comes_of l) c.as_slice.ensures.value ∙ come in
     let second : map comes_of c.as_slice-2.result.now ≡ all_come r (nodes_of r) next =
@@ -33,5 +34,5 @@ returns c =
       changes_are = subst (λ (ids : List FileId). ListsChanges r ids c.in_ok-changes.changes.items) (c.as_slice-3.ensures.value ∙ made.ids_are) c.in_ok-changes.ensures;
       file_is = c.in_ok-finish_file.ensures ∙ (λ i. made.bytes_are i ++ changes_bytes (c.as_slice-4.ensures.value i)
           ++ trailer_bytes (record { root = c.in-Some.root.now.offset; changes = length (made.bytes_are i) }));
-      after_is = ap (λ (a : Current). record { youngest = r.number; node = a.node; copy = a.copy }) c.in_ok-origins.ensures.next;
+      after_is = c.ids_after.ensures ∙ ap (ids_after ids) (c.in_ok-origins.ensures.next ∙ ap (next_after_all r (nodes_of r)) begun);
     }

@@ -32,6 +32,7 @@ returns-clause-saved g c = λ files saved counts.
             (HasFiles files) (HasNext files n c.args.revision.now c.args.properties.now) (HasFiles (with_revision files new c.args.current.now))
             before (c.publish.ensures.replaces before.stands.honest) (e.ok before.stands.honest) (published files n c.args.revision.now c.args.properties.now c.args.current.now (sym saved.count) counts);
         count = omega (arith, counts_few c.args.current.now n counts, c.saturating_add-self.ensures, c.publish.ensures.count, c.write_revision.ensures.count, saved.count, length-append files.revisions (new ∷ []));
+        layout = c.publish.ensures.layout ∙ c.write_revision.ensures.layout ∙ saved.layout;
         goes_on = e.done ∙ c.write_revision.ensures.goes_on ∙ saved.goes_on;
       };
       stands = swapped_now s c.write_revision.new.self.store c.publish.new.self.store Current c.args.current.now

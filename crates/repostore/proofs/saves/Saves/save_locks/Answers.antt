@@ -15,6 +15,7 @@ returns-clause-saved g c = λ files saved.
         stands = replaced s start start new Locks c.args.locks.now (HasFiles files) (HasFiles files) (HasFiles (with_locks files c.args.locks.now)) at
             (c.publish.ensures.replaces saved.stands.honest) written (locks_are files c.args.locks.now);
         count = c.publish.ensures.count ∙ saved.count;
+        layout = c.publish.ensures.layout ∙ saved.layout;
         goes_on = done ∙ saved.goes_on;
       }) (c.publish.ensures.ok saved.stands.honest) c.publish.ensures.done;
       stands = swapped_now s start new Locks c.args.locks.now (HasFiles files) (HasEither files (with_locks files c.args.locks.now)) saved.stands

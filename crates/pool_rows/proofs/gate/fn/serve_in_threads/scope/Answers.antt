@@ -3,6 +3,6 @@ use Rattle.access.specs.Points.{content_of}
 use Rattle.repo_api.specs.Soundness.{AreSound}
 use Rattle.pool_rows.proofs.gate.fn.serve_in_threads.scope.Goals as goal
 
-pub loop-desk-preserved-else-is_err : goal.loop-desk-preserved-else-is_err
-loop-desk-preserved-else-is_err g c =
+pub loop-desk-preserved-in-Some : goal.loop-desk-preserved-in-Some
+loop-desk-preserved-in-Some g c =
     (tt, tt, All-rest (λ d. AreSound (content_of d.seat).revisions) c.in-Some.desk _ _ (search rules) c.loop-desk.invariant.2)

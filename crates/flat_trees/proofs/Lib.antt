@@ -1,0 +1,9 @@
+pub mod Anys
+pub mod Cut
+pub mod Parts
+pub mod Copied
+pub mod Rules
+pub mod MapEdits
+pub mod Keys
+pub mod Landed
+pub mod Merged

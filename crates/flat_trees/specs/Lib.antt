@@ -1,0 +1,3 @@
+pub mod EntryChanges
+pub mod Merging
+pub mod Changing

@@ -1,0 +1,2 @@
+pub mod Maybe
+pub mod Formats

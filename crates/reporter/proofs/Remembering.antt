@@ -1,0 +1,53 @@
+-- What is remembered is so.
+use Rattle.std.proofs.Common.{◌≡◌, ◌<◌, ℕ, Bool, true, [], ◌∷◌, ◌++◌, length, get_or, Some, None, sym, subst}
+use Rattle.std.proofs.lemmas.List.Elements.{All-nil, All-get_or, All-push}
+use Rattle.std.specs.Prelude.{All, IfOk, IfSome, OnOk, MatchBool, Result, Ok, Err}
+use Rattle.svnpath.specs.Paths.{is_at_or_under, PathValue}
+use Rattle.reporter.proofs.{Pairs.silent_as, Reasons.reason_over}
+use Rattle.reporter.specs.{Left.IsSilent, Remembered.{IfRemembers, Remembers}, Walks.{HasReasonAt, IsSamePair, WalkedTrees}}
+use Rattle.reporter.specs.{declared.memory.Memory.Memory, declared.memory.SilentPath.SilentPath}
+
+-- nothing is remembered
+pub nothing_remembered : (t : WalkedTrees) (m : Memory) → m.silent.items ≡ [] → m.news ≡ None → Remembers t m
+nothing_remembered t m none no_news = record {
+  silent = subst (All (λ (s : SilentPath). IsSilent t s.path)) (sym none) (All-nil (λ (s : SilentPath). IsSilent t s.path));
+  news = subst (λ o. IfSome o (HasReasonAt t)) (sym no_news) tt;
+}
+
+-- what is noted is so
+pub noted : {E : Type 0} (r : Result Bool E) (t : WalkedTrees) (p : PathValue) (old new : Memory) (b : Bool) → MatchBool b (HasReasonAt t p) (IsSilent t p)
+    → IfOk r (λ found. found ≡ b) → OnOk r ((u : WalkedTrees) → (b ≡ true → HasReasonAt u p) → Remembers u old → Remembers u new)
+    → IfOk r (λ found. IfRemembers t old new (MatchBool found (HasReasonAt t p) (IsSilent t p)))
+noted (Ok found) t p old new b told is kept = λ so.
+    (kept t (λ e. subst (λ x. MatchBool x (HasReasonAt t p) (IsSilent t p)) e told) so, subst (λ x. MatchBool x (HasReasonAt t p) (IsSilent t p)) (sym is) told)
+noted (Err e) t p old new b told is kept = is
+
+-- the path that has news is another now
+pub news_noted : (t : WalkedTrees) (old new : Memory) (p : PathValue) → new.silent.items ≡ old.silent.items → new.news ≡ Some p → HasReasonAt t p → Remembers t old → Remembers t new
+news_noted t old new p same is reason so = record {
+  silent = subst (All (λ (s : SilentPath). IsSilent t s.path)) (sym same) so.silent;
+  news = subst (λ o. IfSome o (HasReasonAt t)) (sym is) reason;
+}
+
+-- one path without news more
+pub silent_noted : (t : WalkedTrees) (old new : Memory) (s : SilentPath) → new.silent.items ≡ old.silent.items ++ s ∷ [] → new.news ≡ old.news → IsSilent t s.path → Remembers t old → Remembers t new
+silent_noted t old new s more same silent so = record {
+  silent = subst (All (λ (x : SilentPath). IsSilent t x.path)) (sym more) (All-push (λ (x : SilentPath). IsSilent t x.path) old.silent.items s so.silent silent);
+  news = subst (λ o. IfSome o (HasReasonAt t)) (sym same) so.news;
+}
+
+-- none of them
+pub silent_forgotten : (t : WalkedTrees) (old new : Memory) → new.silent.items ≡ [] → new.news ≡ old.news → Remembers t old → Remembers t new
+silent_forgotten t old new none same so = record {
+  silent = subst (All (λ (x : SilentPath). IsSilent t x.path)) (sym none) (All-nil (λ (x : SilentPath). IsSilent t x.path));
+  news = subst (λ o. IfSome o (HasReasonAt t)) (sym same) so.news;
+}
+
+-- what is above the path that has news
+pub news_known : (t : WalkedTrees) (m : Memory) (p q : PathValue) → m.news ≡ Some q → is_at_or_under q p ≡ true → Remembers t m → HasReasonAt t p
+news_known t m p q is under so = reason_over t p q under (subst (λ o. IfSome o (HasReasonAt t)) is so.news)
+
+-- what is of one pair with a path without news
+pub silent_known : (t : WalkedTrees) (m : Memory) (i : ℕ) (s : SilentPath) (p : PathValue) → i < length m.silent.items → s ≡ get_or m.silent.items i s → IsSamePair t s.path p → Remembers t m → IsSilent t p
+silent_known t m i s p within is pair so =
+    silent_as t s.path p pair (subst (λ (x : SilentPath). IsSilent t x.path) (sym is) (All-get_or (λ (x : SilentPath). IsSilent t x.path) m.silent.items i s within so.silent))

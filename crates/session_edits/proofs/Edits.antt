@@ -1,0 +1,27 @@
+-- The steps of an edit.
+use Rattle.std.proofs.Common.{◌≡◌, [], ◌∷◌, Option, Some, None, refl, sym, subst}
+use Rattle.refusals.specs.declared.Refusal.{Refusal}
+use Rattle.wire_edits.specs.declared.editing.EditorCommand.{EditorCommand}
+use Rattle.wire_replies.specs.declared.reply.Reply.TheVariants as replies
+use Rattle.edit_rules.specs.{Editor.Applies, Edits.EditState, Refusing.edit_refusal}
+use Rattle.access.specs.Points.{AccessRules, content_of, Point}
+use Rattle.machine.specs.{Answers.says, Machine.{EditStep, gives_up, JudgedEdit, MachineEdit}, Stages.Stage, declared.env.Env.Env}
+use Rattle.machine.specs.declared.phase.Phase.TheVariants.{Editing, Skipping}
+use Rattle.session_replies.proofs.Steps.{Leads, only_says}
+
+module _ (rules : AccessRules) (env : Env) (edit : MachineEdit) (command : EditorCommand) (p q : Point) (later : rules.between p q) where
+  -- a command is applied
+  pub goes_on : (after : EditState) → edit_refusal (content_of q) edit.editor command ≡ None → Applies (content_of q) edit.editor command after
+      → Leads rules (EditStep env edit command) p q env
+      (Editing (record { client = edit.client; asked = edit.asked; editor = after })) []
+  goes_on after accepted applies =
+      let phase : Stage = Editing (record { client = edit.client; asked = edit.asked; editor = after }) in
+      let judged = subst (λ (r : Option Refusal). JudgedEdit env (content_of q) edit command r (says env phase [])) (sym accepted) (after, applies, refl) in
+      only_says later judged
+
+  -- one that is refused gives the edit up
+  pub ends : (r : Refusal) → edit_refusal (content_of q) edit.editor command ≡ Some r
+      → Leads rules (EditStep env edit command) p q env (Skipping edit.client) (replies.Failure r ∷ [])
+  ends r refused =
+      let judged = subst (λ (o : Option Refusal). JudgedEdit env (content_of q) edit command o (gives_up env edit.client r)) (sym refused) refl in
+      only_says later judged

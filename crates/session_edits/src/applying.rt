@@ -1,0 +1,58 @@
+//! The commands of an edit.
+ghost use Rattle.std.specs.Prelude.{◌≡◌, Some, None, MatchResult};
+ghost use Rattle.refusals.specs.Faults.{IfRefusedBy};
+ghost use Rattle.edit_rules.specs.{Editor.{Applies, RestsOn}, Refusing.edit_refusal, Soundness.IsSoundEdit};
+ghost use Rattle.access.specs.Points.{content_of};
+ghost use Rattle.machine.specs.{Machine.EditStep, Steps.{Looks, Stepped}};
+
+use crate::giving_up::give_up;
+use access::RepoAccess;
+use editor::CommitEditor;
+use machine::{Phase, Turn};
+use refusals::NotDone;
+use repo_api::Repository;
+use session_replies::{SessionEdit, SessionPhase};
+use std::alloc::AllocError;
+use std::mem::drop;
+use wire_edits::EditorCommand;
+use wire_replies::ReplySink;
+
+/// Applies a command at the repository as it is now.
+fn apply_now<R: Repository, A: RepoAccess<View = R>>(
+    editor: &mut CommitEditor<R>,
+    command: &EditorCommand,
+    access: &mut A,
+) -> Result<(), NotDone>
+    requires rests { RestsOn editor.old (content_of (A.point access.old)) }
+    requires sound { IsSoundEdit editor.old }
+    ensures { Looks A.rules A.point access.old access.new (λ c. MatchResult result
+        (λ _. (edit_refusal c editor.old command.now ≡ None)
+        × Applies c editor.old command.now editor.new)
+        (λ fault. IfRefusedBy fault (λ r. edit_refusal c editor.old command.now ≡ Some r))) }
+{
+    let view = access.look()?;
+    editor.apply(command, &view)
+}
+
+/// Carries out a command that edits. One that is refused gives the edit up.
+pub fn apply_command<R: Repository, A: RepoAccess<View = R>, S: ReplySink>(
+    edit: SessionEdit<R>,
+    command: &EditorCommand,
+    access: &mut A,
+    turn: &mut Turn<S>,
+) -> Result<SessionPhase<R>, AllocError>
+    requires rests { RestsOn edit.editor (content_of (A.point access.old)) }
+    requires sound { IsSoundEdit edit.editor }
+    ensures { Stepped result S.writes turn.old turn.new A.rules A.point access.old access.new
+        (EditStep turn.old.env edit command.now) }
+{
+    let mut edit = edit;
+    match apply_now(&mut edit.editor, command, access) {
+        Ok(()) => Ok(Phase::Editing(edit)),
+        Err(NotDone::Refused(refusal)) => give_up(edit, refusal, turn),
+        Err(NotDone::NoMemory) => {
+            drop(edit);
+            Err(AllocError)
+        }
+    }
+}

@@ -1,0 +1,2 @@
+pub mod Traces
+pub mod Touching

@@ -1,0 +1,186 @@
+// Which command lines are read, and as what.
+use command_line::{CommandLineFault, Location, Order, Service, read_command_line};
+use std::alloc::Global;
+use std::process::Abort;
+
+/// Reads a line, split at each space, as a command line.
+fn read(rt: &impl Abort, alloc: Global, line: &str) -> Result<Order, CommandLineFault> {
+    let mut words = Vec::new(alloc);
+    for word in line.split(' ') {
+        let word = String::from_str(alloc, word).expect(rt, "memory");
+        words.push(word).expect(rt, "memory");
+    }
+    read_command_line(alloc, words.as_slice())
+}
+
+/// Gives a location as one text.
+fn located(location: &Location) -> &str {
+    match location {
+        Location::Memory => "in memory",
+        Location::Folder(folder) => folder.as_str(),
+    }
+}
+
+/// Gives sessions over TCP as one text.
+fn served(rt: &impl Abort, alloc: Global, service: &Service) -> String {
+    let Service {
+        location,
+        listen,
+        name,
+        users,
+        per_address,
+        revprops,
+        quiet,
+    } = service;
+    let location = located(location);
+    let text = format!(in alloc;
+        "serve {location} {listen} {name} {users} {per_address} {revprops} {quiet}"
+    );
+    text.expect(rt, "memory")
+}
+
+/// Gives an order as one text.
+fn ordered(rt: &impl Abort, alloc: Global, order: &Order) -> String {
+    let text = match order {
+        Order::Create { folder, format } => {
+            let number = format.number();
+            format!(in alloc; "create {folder} {number}")
+        }
+        Order::Migrate { folder, new, quiet } => {
+            format!(in alloc; "migrate {folder} {new} {quiet}")
+        }
+        Order::Stdio {
+            location,
+            name,
+            revprops,
+        } => {
+            let location = located(location);
+            format!(in alloc; "stdio {location} {name} {revprops}")
+        }
+        Order::Serve(service) => Ok(served(rt, alloc, service)),
+        Order::Version => String::from_str(alloc, "version"),
+    };
+    text.expect(rt, "memory")
+}
+
+/// Says whether this text is what is asked for.
+fn is_order(
+    rt: &impl Abort,
+    alloc: Global,
+    read: &Result<Order, CommandLineFault>,
+    wanted: &str,
+) -> bool {
+    match read {
+        Ok(order) => ordered(rt, alloc, order).as_str() == wanted,
+        Err(CommandLineFault::Help(_)) => wanted == "help",
+        Err(CommandLineFault::Bad(_)) => wanted == "bad",
+        Err(CommandLineFault::NoMemory) => false,
+    }
+}
+
+/// Says whether this text is what a line asks for.
+fn is_asked(rt: &impl Abort, alloc: Global, line: &str, wanted: &str) -> bool {
+    is_order(rt, alloc, &read(rt, alloc, line), wanted)
+}
+
+static LINES: [(&str, &str); 19] = [
+    ("svnserved stdio - --name r", "stdio in memory r false"),
+    ("svnserved stdio --name=r -", "stdio in memory r false"),
+    (
+        "svnserved stdio - --name r --revprops",
+        "stdio in memory r true",
+    ),
+    (
+        "svnserved stdio --revprops --name=r -",
+        "stdio in memory r true",
+    ),
+    ("svnserved stdio folder --name r", "stdio folder r false"),
+    ("svnserved create folder", "create folder 3"),
+    ("svnserved create --format 2 folder", "create folder 2"),
+    ("svnserved create folder --format=3", "create folder 3"),
+    ("svnserved migrate folder copy", "migrate folder copy false"),
+    (
+        "svnserved migrate --quiet folder copy",
+        "migrate folder copy true",
+    ),
+    (
+        "svnserved serve - --listen 127.0.0.1:3690 --name r --users file",
+        "serve in memory 127.0.0.1:3690 r file 16 false false",
+    ),
+    (
+        "svnserved serve --quiet --users=file --revprops --name=r --listen=0.0.0.0:1 folder",
+        "serve folder 0.0.0.0:1 r file 16 true true",
+    ),
+    (
+        "svnserved serve - --listen 127.0.0.1:1 --per-address 4 --name r --users file",
+        "serve in memory 127.0.0.1:1 r file 4 false false",
+    ),
+    ("svnserved --help", "help"),
+    ("svnserved create --help", "help"),
+    ("svnserved migrate --help", "help"),
+    ("svnserved serve --help", "help"),
+    ("svnserved --version", "version"),
+    ("svnserved -V", "version"),
+];
+
+#[test]
+fn reads_what_is_asked_for(rt: HostRuntime) {
+    let mut are_read = true;
+    for (line, wanted) in LINES.iter() {
+        are_read &= is_asked(&rt, rt.alloc(), line, wanted);
+    }
+    assert!(rt; are_read);
+}
+
+static OTHER_LINES: [&str; 41] = [
+    "svnserved",
+    "svnserved stdio",
+    "svnserved stdio -",
+    "svnserved stdio --name r",
+    "svnserved stdio - --name r --name q",
+    "svnserved stdio - --name r more",
+    "svnserved stdio - --name r --revprops=true",
+    "svnserved stdio - --name r --revprops --revprops",
+    "svnserved stdio - --name r --quiet",
+    "svnserved stdio - --revprops",
+    "svnserved create",
+    "svnserved create -",
+    "svnserved create ",
+    "svnserved stdio  --name r",
+    "svnserved create folder --name r",
+    "svnserved create folder --format",
+    "svnserved create folder --format 1",
+    "svnserved create folder --format 4",
+    "svnserved create folder --format 02",
+    "svnserved create folder --format +2",
+    "svnserved create folder --format two",
+    "svnserved create folder --format ",
+    "svnserved create folder --format 2 --format 2",
+    "svnserved migrate",
+    "svnserved migrate folder",
+    "svnserved migrate - copy",
+    "svnserved migrate folder -",
+    "svnserved migrate  copy",
+    "svnserved migrate folder ",
+    "svnserved migrate folder copy more",
+    "svnserved migrate folder copy --format 2",
+    "svnserved serve - --name r --users file",
+    "svnserved serve - --listen 127.0.0.1:1 --users file",
+    "svnserved serve - --listen 127.0.0.1:1 --name r",
+    "svnserved serve --listen 127.0.0.1:1 --name r --users file",
+    "svnserved serve - --listen 127.0.0.1:1 --name r --users file --per-address 0",
+    "svnserved serve - --listen 127.0.0.1:1 --name r --users file --per-address 17",
+    "svnserved serve - --listen 127.0.0.1:1 --name r --users file --per-address many",
+    "svnserved other - --name r",
+    "svnserved serve --version",
+    "svnserved --version=1",
+];
+
+#[test]
+fn refuses_other_lines(rt: HostRuntime) {
+    let mut are_refused = true;
+    for line in OTHER_LINES.iter() {
+        are_refused &= is_asked(&rt, rt.alloc(), line, "bad");
+    }
+    assert!(rt; are_refused);
+}
