@@ -15,6 +15,10 @@ pub(crate) const EDIT_LIMIT: u64 = 4_294_967_296;
 /// What a text delta counts as while it is read, in bytes: as much as the longest text of a file.
 const OPEN_DELTA: u64 = 16_777_216;
 
+/// How many times the bytes of a text are in memory when its commit is saved: in the edit, in the file of the revision, and
+/// twice as that is read again.
+const COPIES_OF_TEXT: u64 = 4;
+
 /// What a command counts as beside its strings and the names of its path, in bytes.
 const COMMAND: u64 = 512;
 
@@ -71,14 +75,22 @@ fn weight(command: &EditorCommand, names: usize) -> u64 {
     }
 }
 
-/// Says what a text that is made counts for less than the delta that makes it, in bytes.
-fn spared(tokens: &BTreeMap<ByteString, Opened>, token: &ByteString) -> u64 {
+/// Says what a text counts as once it is made, in bytes; `None` if its delta makes none.
+fn text_weight(tokens: &BTreeMap<ByteString, Opened>, token: &ByteString) -> Option<u64> {
     match tokens.get(token) {
         Some(Opened::File(_, DeltaState::Reading(delta))) => match delta.text() {
-            Ok(text) => OPEN_DELTA.saturating_sub(text.len() as u64),
-            Err(_) => 0,
+            Ok(text) => Some(COPIES_OF_TEXT.saturating_mul(text.len() as u64)),
+            Err(_) => None,
         },
-        _ => 0,
+        _ => None,
+    }
+}
+
+/// Gives the room that is left once a text delta has ended: that of the open delta comes back, and the text takes its own.
+fn room_behind(room: u64, text: Option<u64>) -> Option<u64> {
+    match text {
+        None => Some(room),
+        Some(weight) => room.saturating_add(OPEN_DELTA).checked_sub(weight),
     }
 }
 
@@ -91,10 +103,14 @@ impl<R: Repository> CommitEditor<R> {
         let Some(room) = self.room.checked_sub(weight(command, self.path.len())) else {
             return Err(AllocError);
         };
-        self.room = match command {
-            EditorCommand::TextDeltaEnd(token) => room.saturating_add(spared(&self.tokens, token)),
-            _ => room,
+        let text = match command {
+            EditorCommand::TextDeltaEnd(token) => text_weight(&self.tokens, token),
+            _ => None,
         };
+        let Some(room) = room_behind(room, text) else {
+            return Err(AllocError);
+        };
+        self.room = room;
         Ok(())
     }
 }
