@@ -1,9 +1,9 @@
 -- What holds of traces, logs, locations and dated revisions.
 use Rattle.std.specs.{Prelude.{◌≡◌, ◌<◌, ◌≤◌, ◌⊎◌, ℕ, Bool, true, false, List, Some, All, Contains}, List.AllPairs}
 use Rattle.svnpath.specs.Paths.{PathValue}
-use Rattle.repo_api.specs.{Histories.{History, history_of}, States.{RepoState, youngest}}
+use Rattle.repo_api.specs.{Dates.is_dated, Histories.{History, history_of}, States.{RepoState, youngest}}
 use Rattle.traces.specs.{Traces.trace, declared.place.Place.Place}
-use Rattle.history.specs.{Logs.{log, is_of_log, newest_asked, oldest_asked, place_at}, Locations.location, Dates.is_dated, declared.log_ask.LogAsk.LogAsk}
+use Rattle.history.specs.{Logs.{log, is_of_log, newest_asked, oldest_asked, place_at}, Locations.location, declared.log_ask.LogAsk.LogAsk}
 
 -- along a trace each place is in an older revision than those before it
 abbrev pub TracesFall : History → Type 0

@@ -13,7 +13,7 @@ mod log_ask;
 mod walk;
 mod walks;
 
-pub use dates::{dated_rev, is_date_text};
+pub use dates::dated_rev;
 pub use kinds::kind_shown;
 pub use laws::{
     dated_revisions_are_greatest, locations_are_on_traces, logs_are_right, traces_fall,

@@ -7,10 +7,10 @@ use Rattle.svnpath.specs.{Paths.{Component, PathValue}, declared.fault.PathFault
 use Rattle.refusals.specs.{declared.Refusal.Refusal, Refusing.path_refusal}
 use Rattle.refusals.specs.declared.Refusal.TheVariants as refusals
 use Rattle.repo_api.specs.{Kinds.{created_at, kind_at, node_properties_at, or_empty, properties_at, text_at}, Properties.{PropertyList, with_property}}
-use Rattle.repo_api.specs.{Readings.names_at, States.RepoState, declared.entry.NodeKind.NodeKind}
+use Rattle.repo_api.specs.{Dates.is_date_text, Readings.names_at, States.RepoState, declared.entry.NodeKind.NodeKind}
 use Rattle.repo_api.specs.declared.entry.NodeKind.TheVariants as kinds
 use Rattle.traces.specs.declared.place.Place.{Place}
-use Rattle.history.specs.Dates.{is_date_text, dated_rev}
+use Rattle.history.specs.Dates.{dated_rev}
 use Rattle.wire_forms.specs.Forms.{is_name}
 use Rattle.commands.specs.{declared.command.GetFileCommand.GetFileCommand, declared.command.GetDirCommand.GetDirCommand}
 use Rattle.drive_reports.specs.Refusing.{revision_read}

@@ -17,6 +17,7 @@ pub mod Accepted
 pub mod LockRuns
 pub mod Judging
 pub mod Kinds
+pub mod Dates
 pub mod Histories
 pub mod Readings
 pub mod Opening

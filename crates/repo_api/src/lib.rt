@@ -4,6 +4,7 @@
 
 mod ask;
 mod change;
+mod dates;
 mod edit;
 mod entry;
 mod fault;
@@ -18,6 +19,7 @@ mod repository;
 
 pub use ask::CommitAsk;
 pub use change::{Action, Change, Source};
+pub use dates::{date_of, is_date_text, is_up_to};
 pub use edit::EditOp;
 pub use entry::{Content, Entry, Mark, NodeKind};
 pub use fault::ChangeFault;

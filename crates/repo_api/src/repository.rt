@@ -4,7 +4,7 @@ ghost use Rattle.repo_api.specs.{States.{RepoState, TxnState, IsBeginning, IsBeg
 ghost use Rattle.repo_api.specs.{Accepted.Accepted.{ChangesProperty, Commits, Locks, Releases, Unlocks}, RightEdits.IsRightEdit};
 ghost use Rattle.repo_api.specs.{Locking.{at_or_under, releases}, Histories.{history_of, IsQuietSince}};
 ghost use Rattle.repo_api.specs.Kinds.{kind_at, has_deeper_at, created_at, node_properties_at, text_at, kind_in, created_in, text_in};
-ghost use Rattle.repo_api.specs.Readings.{names_at, IsSameAt};
+ghost use Rattle.repo_api.specs.{Dates.IsUndatedSince, Readings.{names_at, IsSameAt}};
 
 use crate::ask::CommitAsk;
 use crate::change::Change;
@@ -88,6 +88,15 @@ pub trait Repository: Drop {
     fn settled(&self, revision: u64, path: &Path) -> u64
         ensures within { result ≤ revision }
         ensures quiet { IsQuietSince (history_of (content self.now)) path.now result revision }
+    {
+        revision
+    }
+
+    /// Gives a revision, at most this one, after which and up to this one none is dated up to the date. The less it
+    /// is, the fewer revisions are gone through.
+    fn dated_bound(&self, revision: u64, date: &[u8]) -> u64
+        ensures within { result ≤ revision }
+        ensures undated { IsUndatedSince (content self.now) date.now result revision }
     {
         revision
     }

@@ -5,9 +5,9 @@ ghost use Rattle.wire_replies.specs.Made.{Makes};
 
 use crate::places::revision_read;
 use byte_string::ByteString;
-use history::{dated_rev, is_date_text};
+use history::dated_rev;
 use refusals::Refusal;
-use repo_api::{Properties, Repository};
+use repo_api::{Properties, Repository, is_date_text};
 use std::alloc::AllocError;
 use wire_forms::copy_optional;
 use wire_replies::Reply;

@@ -1,7 +1,7 @@
 -- None of the revisions that were passed over is dated up to the date.
 use Rattle.std.proofs.Common.{◌≡◌}
-use Rattle.repo_api.specs.States.{youngest}
-use Rattle.history.specs.Dates.{greatest, is_dated}
+use Rattle.repo_api.specs.{Dates.is_dated, States.youngest}
+use Rattle.history.specs.Dates.{greatest}
 use Rattle.history.proofs.dates.dated_rev.Given as goal
 
 abbrev pub invariant-loop-revision : goal.invariant-loop-revision

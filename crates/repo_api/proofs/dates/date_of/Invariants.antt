@@ -1,8 +1,8 @@
 -- The first of those that are left is the first of all.
 use Rattle.std.proofs.Common.{◌≡◌}
 use Rattle.std.specs.List.{find}
-use Rattle.history.specs.Dates.{is_date_name}
-use Rattle.history.proofs.dates.date_of.Given as goal
+use Rattle.repo_api.specs.Dates.{is_date_name}
+use Rattle.repo_api.proofs.dates.date_of.Given as goal
 
 abbrev pub invariant-loop-name : goal.invariant-loop-name
 invariant-loop-name l =
