@@ -13,3 +13,4 @@ pub mod Marks
 pub mod Opened
 pub mod Again
 pub mod Deep
+pub mod Rising

@@ -3,6 +3,7 @@ ghost use Rattle.std.specs.Prelude.{◌≡◌, ◌<◌, ◌++◌, ◌∷◌, [],
 ghost use Rattle.noderevs.specs.{Held.{count, node_at}, Soundness.IsNext};
 ghost use Rattle.held.specs.{Contents.{revisions_of, block_tree}, Growing.HasNext, Maps.Mapped, Placed.IsPlacedBlock};
 
+use crate::dating::rising_from;
 use crate::held::Held;
 use noderevs::Block;
 use pvec::PVec;
@@ -29,11 +30,13 @@ impl Held {
         let nodes = self.nodes.with_block(alloc, block)?;
         let changes = with_one_more(alloc, &self.changes, changes)?;
         let properties = with_one_more(alloc, &self.properties, properties)?;
+        let rising_from = rising_from(&properties, self.count(), self.rising_from);
         Ok(Held {
             uuid: self.uuid,
             nodes,
             changes,
             properties,
+            rising_from,
         })
     }
 }

@@ -2,6 +2,7 @@
 #![tactic(auto)]
 
 mod committing;
+mod dating;
 mod filing;
 mod finding;
 mod growing;

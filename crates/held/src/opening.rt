@@ -25,6 +25,7 @@ impl Held {
             nodes,
             changes,
             properties,
+            rising_from: 0,
         })
     }
 }

@@ -1,8 +1,9 @@
 //! A changed property of a revision.
-ghost use Rattle.std.specs.Prelude.{◌≡◌, ◌<◌, length, IfOk, slice_get, slice_set};
-ghost use Rattle.repo_api.specs.{Kinds.or_empty, RevisionProperties.{property_changed, with_changed_property}};
-ghost use Rattle.held.specs.Growing.{HasSameBut};
+ghost use Rattle.std.specs.Prelude.{◌≡◌, ◌<◌, length, IfOk, slice_set};
+ghost use Rattle.repo_api.specs.RevisionProperties.{with_changed_property};
+ghost use Rattle.held.specs.{Growing.HasSameBut, Rising.RisesFrom};
 
+use crate::dating::rising_from;
 use crate::held::Held;
 use byte_string::ByteString;
 use pvec::PVec;
@@ -23,8 +24,11 @@ impl Held {
         ensures { IfOk result (λ h. HasSameBut self.now h
             (λ s. with_changed_property s revision name value)) }
     {
-        let properties = with_changed(alloc, &self.properties, revision, name, value)?;
-        self.with_lists(properties)
+        let Some(list) = self.properties(revision) else {
+            std::mem::drop((name, value));
+            return self.with_lists(self.properties.share()?, self.rising_from);
+        };
+        self.with_list(alloc, revision, changed_property(list, name, value)?)
     }
 
     /// Makes the same with another list of properties of a revision.
@@ -40,12 +44,14 @@ impl Held {
     {
         let list = Arc::new(alloc, list)?;
         let lists = self.properties.replaced(alloc, revision as usize, list)?;
-        self.with_lists(lists)
+        let rising_from = rising_from(&lists, revision, self.rising_from);
+        self.with_lists(lists, rising_from)
     }
 
-    /// Makes the same with other lists of properties, as many as there are.
-    fn with_lists(&self, properties: PVec<Properties>) -> Result<Held, AllocError>
-        requires { length properties ≡ length self.now.properties }
+    /// Makes the same with other lists of properties, as many as there are, whose dates rise from this revision on.
+    fn with_lists(&self, properties: PVec<Properties>, rising_from: u64) -> Result<Held, AllocError>
+        requires many { length properties ≡ length self.now.properties }
+        requires rising { RisesFrom properties rising_from }
         ensures { IfOk result (λ h. HasSameBut self.now h
             (λ s. record s { properties = properties })) }
     {
@@ -56,26 +62,7 @@ impl Held {
             nodes,
             changes,
             properties,
+            rising_from,
         })
     }
-}
-
-/// Makes the lists of properties, of which this one has a property changed, if it exists.
-fn with_changed(
-    alloc: Global,
-    lists: &PVec<Properties>,
-    number: u64,
-    name: ByteString,
-    value: Option<ByteString>,
-) -> Result<PVec<Properties>, AllocError>
-    ensures { IfOk result (λ v. v ≡ slice_set lists.now number
-        (property_changed name value (or_empty (slice_get lists.now number)))) }
-{
-    let place = number as usize;
-    let Some(list) = lists.get(place) else {
-        std::mem::drop((name, value));
-        return lists.share();
-    };
-    let list = changed_property(list, name, value)?;
-    lists.replaced(alloc, place, Arc::new(alloc, list)?)
 }

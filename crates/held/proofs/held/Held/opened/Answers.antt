@@ -1,6 +1,6 @@
 use Rattle.std.proofs.Common.{◌≡◌, ◌<◌, [], ◌∷◌, length, ap, sym, subst, arith, ◌∙◌}
 use Rattle.noderevs.specs.Held.{blocks_of, trees_of}
-use Rattle.held.proofs.{Again.same_state, Opened.{opening_placed, opening_shown, opening_is}}
+use Rattle.held.proofs.{Again.same_state, Opened.{opening_placed, opening_shown, opening_is}, Rising.rises_alone}
 use Rattle.held.proofs.held.Held.opened.Goals as goal
 
 pub invariant_of-result : goal.invariant_of-result
@@ -16,6 +16,7 @@ invariant_of-result c =
       shown =
           opening_shown (trees_of nodes) changes
           (c.in_ok-changes.ensures ∙ ap (λ l. l ∷ []) c.new.ensures) c.in_ok-nodes.ensures.tree;
+      rising = rises_alone c.in_ok-properties.properties (ap length c.in_ok-properties.ensures);
     }
 
 pub returns : goal.returns

@@ -12,12 +12,13 @@ invariant_of-result c =
     let many : length old.changes ≡ length c.in_ok-changes.changes = ap length (sym changes) in
     record {
       even = ap length blocks ∙ old.even ∙ many;
-      all = c.requires ∙ old.all ∙ many;
+      all = c.requires.many ∙ old.all ∙ many;
       begun = subst (λ n. 0 < n) many old.begun;
       placed = subst (λ bs. ArePlaced (node_in bs) (root_in bs)) (sym blocks) old.placed;
       shown =
           shown_again (blocks_of old.nodes) (blocks_of c.in_ok-nodes.nodes)
           old.changes c.in_ok-changes.changes blocks changes old.shown;
+      rising = c.requires.rising;
     }
 
 pub returns : goal.returns

@@ -1,7 +1,7 @@
 use Rattle.std.proofs.{Common.{◌≡◌, ◌<◌, ◌+◌, length, refl, sym, ap, subst, arith, ◌∙◌}, lemmas.List.length_push}
 use Rattle.noderevs.specs.{Held.{blocks_of, trees_of}, Nodes.{node_in, root_in}}
-use Rattle.held.specs.{Contents.block_tree, Placed.ArePlaced}
-use Rattle.held.proofs.{OneMore.{grown, grown_is}, Placing.placed_pushed, Seen.held_many}
+use Rattle.held.specs.{Contents.block_tree, Placed.ArePlaced, Rising.RisesButAt}
+use Rattle.held.proofs.{OneMore.{grown, grown_is}, Placing.placed_pushed, Rising.rises_but_last, Seen.held_many}
 use Rattle.held.proofs.held.Held.with_revision.Goals as goal
 
 pub with_block-requires-clause-room : goal.with_block-requires-clause-room
@@ -14,6 +14,25 @@ with_one_more-requires c = subst (λ n. n < 262144) (held_many c.args.self.now) 
 pub with_one_more-requires-2 : goal.with_one_more-requires-2
 with_one_more-requires-2 c =
     subst (λ n. n < 262144) (held_many c.args.self.now ∙ sym c.args.self.now.all) c.requires.room
+
+pub rising_from-rising_from-requires-clause-place : goal.rising_from-rising_from-requires-clause-place
+rising_from-rising_from-requires-clause-place c =
+    let old = c.args.self.now in
+    let at : c.count.result ≡ length old.properties =
+    c.count.ensures ∙ held_many old ∙ sym old.all in
+    let more : length c.in_ok-properties.properties ≡ length old.properties + 1 =
+    ap length c.in_ok-properties.ensures ∙ length_push old.properties c.args.properties in
+    omega (arith, at, more)
+
+pub rising_from-rising_from-requires-clause-others :
+    goal.rising_from-rising_from-requires-clause-others
+rising_from-rising_from-requires-clause-others c =
+    let old = c.args.self.now in
+    let at : c.count.result ≡ length old.properties =
+    c.count.ensures ∙ held_many old ∙ sym old.all in
+    subst (λ k. RisesButAt c.in_ok-properties.properties k old.rising_from) (sym at)
+    (rises_but_last old.properties c.in_ok-properties.properties c.args.properties old.rising_from
+    c.in_ok-properties.ensures old.rising)
 
 pub invariant_of-result : goal.invariant_of-result
 invariant_of-result c =
@@ -39,6 +58,7 @@ invariant_of-result c =
           (λ q. ap (λ n. trees_of c.in_ok-nodes.nodes n q) (sym old.even)
           ∙ c.in_ok-nodes.ensures.tree q)
           c.requires.tree old.shown;
+      rising = c.rising_from-rising_from.ensures;
     }
 
 pub returns : goal.returns
