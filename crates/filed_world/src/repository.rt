@@ -75,6 +75,10 @@ impl Repository for FiledWorld {
         self.world.settled(revision, path)
     }
 
+    fn dated_bound(&self, revision: u64, date: &[u8]) -> u64 {
+        self.world.dated_bound(revision, date)
+    }
+
     fn revision_properties(&self, revision: u64) -> Option<&Properties> {
         self.world.revision_properties(revision)
     }

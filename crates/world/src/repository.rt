@@ -115,6 +115,10 @@ impl Repository for World {
         self.held.settled(revision, path)
     }
 
+    fn dated_bound(&self, revision: u64, date: &[u8]) -> u64 {
+        self.held.dated_bound(revision, date)
+    }
+
     fn revision_properties(&self, revision: u64) -> Option<&Properties> {
         self.held.properties(revision)
     }
