@@ -14,6 +14,7 @@ pub use fault::TalkFault;
 pub use gate::{Gate, OpenGate};
 pub use machine::Env;
 pub use pieces::read_piece;
+pub use session::Awaited;
 pub use sink::{OutputSink, PIECE, write_and_flush};
 pub use watch::{Unwatched, Watch};
 pub use worker::Worker;

@@ -142,6 +142,7 @@ impl<'w, A: RepoAccess + Drop, E: EnvSource + Drop, G: Gate, W: Watch> Worker<'w
             if session.unread_len() > MAX_UNREAD {
                 return Err(TalkFault::TooLong);
             }
+            self.gate.awaits(number, session.awaited());
             let count = read_piece(input, &mut buffer).map_err(TalkFault::Read)?;
             if count == 0 {
                 return Ok(());

@@ -5,7 +5,7 @@ ghost use Rattle.repo_api.specs.Soundness.{AreSound};
 
 use crate::connections::{AT_ZERO, Call, Client, LOGIN, MemoryCaller, NEVER, WELCOME, callers};
 use crate::repositories::{desks_at, empty_repository};
-use conversations::{Gate, Unwatched};
+use conversations::{Awaited, Gate, Unwatched};
 use crossbeam_channel::Receiver;
 use filed_world::FiledWorld;
 use machine::Options;
@@ -37,6 +37,8 @@ struct HoldsBack<'a, C: Clock> {
 }
 
 impl<'a, C: Clock> Gate for HoldsBack<'a, C> {
+    fn awaits(&self, _session: u64, _awaited: Awaited) {}
+
     fn pass(&self, session: u64, piece: u64) {
         if session != 1 || piece != 2 {
             return;

@@ -2,8 +2,10 @@
 //! repository, alone or among others.
 #![tactic(auto)]
 
+mod awaiting;
 mod incoming;
 mod serve;
 mod session;
 
+pub use awaiting::Awaited;
 pub use session::{Session, SessionFault};

@@ -3,7 +3,9 @@ ghost use Rattle.std.specs.Prelude.{◌≡◌, ◌++◌, [], length, true, false
 ghost use Rattle.repo_api.specs.Soundness.{AreSound};
 ghost use Rattle.access.specs.Points.{content_of};
 ghost use Rattle.machine.specs.{Stages.{is_open, StandsOn, user_in}, Steps.{FeedLost, FeedWritten}};
+ghost use Rattle.session.specs.Awaiting.{awaited};
 
+use crate::awaiting::{Awaited, awaited_in};
 use crate::incoming::take_incoming;
 use crate::serve::serve;
 use access::RepoAccess;
@@ -108,6 +110,13 @@ impl<R: Repository> Session<R> {
         ensures { result ≡ is_open self.now.phase }
     {
         self.phase.is_open()
+    }
+
+    /// Says what it waits for.
+    pub fn awaited(&self) -> Awaited
+        ensures { result ≡ awaited self.now.phase }
+    {
+        awaited_in(&self.phase)
     }
 
     /// Says how many bytes it holds of an item that is not whole yet.

@@ -1,0 +1,37 @@
+//! What a session waits for.
+ghost use Rattle.std.specs.Prelude.{◌≡◌};
+ghost use Rattle.session.specs.Awaiting.{awaited};
+
+use machine::Phase;
+
+/// What a session waits for from its client.
+#[derive(Clone, Copy)]
+pub enum Awaited {
+    /// What belongs to a login: the answer to the greeting, a mechanism, or an answer to a challenge.
+    Login,
+    /// A command.
+    Command,
+    /// A command of a report, or the answer to a drive.
+    Report,
+    /// A command of an edit.
+    Edit,
+    /// Nothing any more.
+    Nothing,
+}
+
+/// Says what is awaited in a phase.
+pub fn awaited_in<E, G>(phase: &Phase<E, G>) -> Awaited
+    ensures { result ≡ awaited phase.now }
+{
+    match phase {
+        Phase::Greeted => Awaited::Login,
+        Phase::LoggingIn(_) => Awaited::Login,
+        Phase::Challenged(_) => Awaited::Login,
+        Phase::Serving(_) => Awaited::Command,
+        Phase::Editing(_) => Awaited::Edit,
+        Phase::Skipping(_) => Awaited::Edit,
+        Phase::Reporting(_) => Awaited::Report,
+        Phase::Driven(_) => Awaited::Report,
+        Phase::Ended => Awaited::Nothing,
+    }
+}
