@@ -7,16 +7,16 @@ use Rattle.items.specs.declared.scan.Step.TheVariants as steps
 use Rattle.items.proofs.Complete.{onward, onward-suc, run-letters, run-number, run-string, run-closing, run-word}
 
 -- `) ` for each open list
-closers : ℕ → List ℕ
+unfoldable pub closers : ℕ → List ℕ
 closers zero = []
 closers (suc d) = 41 ∷ 32 ∷ closers d
 
-onward-closers : (l : Limits) (d : ℕ) → onward l d (closers d) ≡ whole []
+pub onward-closers : (l : Limits) (d : ℕ) → onward l d (closers d) ≡ whole []
 unfolding closers
 onward-closers l zero = refl
 onward-closers l (suc d) = onward-suc l d (closers (suc d)) ∙ run-closing l d 32 (closers d) refl ∙ onward-closers l d
 
-some_string : (k : ℕ) → (s : List ℕ) × (length s ≡ k)
+pub some_string : (k : ℕ) → (s : List ℕ) × (length s ≡ k)
 some_string zero = ([], refl)
 some_string (suc k) = let p = some_string k in (0 ∷ p.0, ap suc p.1)
 
@@ -26,7 +26,7 @@ unfolding closers
 gap_end l zero = (97 ∷ 32 ∷ [], run-word l 0 (97 ∷ []) 32 [] (refl, tt) refl)
 gap_end l (suc d) = (closers (suc d), run-closing l d 32 (closers d) refl ∙ onward-closers l d)
 
-run-opening_space : (l : Limits) (d : ℕ) (c : List ℕ) → run l (32 ∷ c) (at d lexes.Open) ≡ run l c (at d lexes.Gap)
+pub run-opening_space : (l : Limits) (d : ℕ) (c : List ℕ) → run l (32 ∷ c) (at d lexes.Open) ≡ run l c (at d lexes.Gap)
 unfolding run step_in
 run-opening_space l d c = refl
 

@@ -15,7 +15,7 @@ begins-front l a b h =
     let P : List ℕ → Type 0 = λ x. IsRow l h.items x in
     record { items = h.items; rest = b ++ h.rest; row = subst P (append_assoc a b h.rest) h.row }
 
-begins-take : (l : Limits) (n : ℕ) (stream : List ℕ) → Begins l stream → Begins l (take n stream)
+pub begins-take : (l : Limits) (n : ℕ) (stream : List ℕ) → Begins l stream → Begins l (take n stream)
 begins-take l n stream h =
     let P : List ℕ → Type 0 = λ x. Begins l x in
     begins-front l (take n stream) (drop n stream) (subst P (sym (take-append-drop n stream)) h)

@@ -8,6 +8,7 @@ pub mod Flow
 pub mod Shapes
 pub mod Defects
 pub mod Scanned
+pub mod Counted
 pub mod Built
 pub mod Unique
 pub mod Rows

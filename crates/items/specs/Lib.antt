@@ -1,4 +1,5 @@
 pub mod Build
+pub mod Counting
 pub mod Decoding
 pub mod Faults
 pub mod Print
@@ -7,6 +8,7 @@ pub mod Run
 pub mod Scan
 pub mod Spelling
 pub mod Stream
+pub mod Tally
 pub mod Values
 pub mod Unread
 pub mod View

@@ -4,7 +4,7 @@ ghost use Rattle.std.specs.Prelude.{◌≡◌, ◌++◌, [], length, IfOk, IfErr
 use crate::build::build;
 use crate::fault::fault_at;
 use crate::item::Item;
-use crate::scan::{Defect, End, Lex, Progress, Scan, proceed};
+use crate::scan::{Defect, End, Lex, Progress, Scan, lacking, proceed};
 use bytes::BytesMut;
 use std::alloc::{AllocError, Global};
 use std::marker::Model;
@@ -54,13 +54,14 @@ pub struct ItemReader {
 
 impl Model for ItemReader {
     ghost use Rattle.std.specs.Prelude.{◌<◌};
-    ghost use Rattle.items.specs.{Unread.Unread, Run.IsScanned};
+    ghost use Rattle.items.specs.{Unread.Unread, Run.IsScanned, Tally.IsCounted};
 
     ghost Value = { Unread };
 
     ghost view = { λ r. record { place = r.place; rest = r.bytes.items } };
 
-    ghost invariant = { λ r. IsScanned r.bytes.items r.progress.count r.progress.scan };
+    ghost invariant = { λ r. IsScanned r.bytes.items r.progress.count r.progress.scan
+        × IsCounted r.bytes.items r.progress.count r.progress.items };
 }
 
 impl Drop for ItemReader {
@@ -76,6 +77,7 @@ impl Drop for ItemReader {
 
 const START: Progress = Progress {
     count: 0,
+    items: 0,
     scan: Scan {
         depth: 0,
         lex: Lex::Gap,
@@ -83,7 +85,7 @@ const START: Progress = Progress {
 };
 
 impl ItemReader {
-    ghost use Rattle.items.specs.{Reading.{Takes, IsFaultOf, HasNone}, View.value_of};
+    ghost use Rattle.items.specs.{Counting.CountsItems, Reading.{Takes, IsFaultOf, HasNone}, View.value_of};
 
     /// Makes a reader of a stream from its beginning.
     pub fn new(alloc: Global) -> ItemReader
@@ -102,6 +104,15 @@ impl ItemReader {
         ensures { result ≡ length self.now.rest }
     {
         self.bytes.len()
+    }
+
+    /// Says how many items, in lists of any depth and with itself, the one that its bytes begin has at least: those
+    /// that have begun. No byte is scanned twice for it where `next` has answered none.
+    pub fn unread_items(&self) -> usize
+        ensures { CountsItems result self.now.rest }
+    {
+        let (progress, _) = proceed(self.progress, self.bytes.as_slice());
+        progress.items + lacking(progress.scan)
     }
 
     /// Takes the next piece of the stream, which may be cut anywhere. It fails for want of memory

@@ -1,7 +1,7 @@
 // The scanner: it goes over the bytes once, up to the end of an item or to a byte that is wrong.
-ghost use Rattle.std.specs.Prelude.{◌≡◌, ◌≤◌, IfSome};
+ghost use Rattle.std.specs.Prelude.{◌≡◌, ◌≤◌, IfSome, if◌then◌else◌};
 ghost use Rattle.items.specs.{Values.limits, Scan.{step, behind_body, gap_step, step_in, number_step, is_space, is_word_byte, StaysShallow}};
-ghost use Rattle.items.specs.Run.{IsScanned, EndsSo, Skips};
+ghost use Rattle.items.specs.{Run.{IsScanned, EndsSo, Skips}, Tally.{IsCounted, begun, lacking}};
 
 pub const MAX_DEPTH: u64 = 64;
 
@@ -42,10 +42,11 @@ pub enum Step {
     Bad(Defect),
 }
 
-/// How many bytes are scanned, and the scan behind them.
+/// How many bytes are scanned, how many items begin in them, and the scan behind them.
 #[derive(Clone, Copy)]
 pub struct Progress {
     pub count: usize,
+    pub items: usize,
     pub scan: Scan,
 }
 
@@ -57,14 +58,17 @@ pub enum End {
     Bad(Defect),
 }
 
-#[tactic(auto, using(crate::proofs::Scanned::scanned_more, crate::proofs::Scanned::scanned_skip))]
+#[tactic(auto, using(crate::proofs::Scanned::scanned_more, crate::proofs::Scanned::scanned_skip, crate::proofs::Counted::counted_more, crate::proofs::Counted::counted_skip))]
 /// Scans on, until an item is whole, a byte is wrong, or the bytes end.
 pub fn proceed(from: Progress, bytes: &[u8]) -> (Progress, End)
-    requires { IsScanned bytes.now from.count from.scan }
+    requires scanned { IsScanned bytes.now from.count from.scan }
+    requires counted { IsCounted bytes.now from.count from.items }
     ensures scanned { IsScanned bytes.now result.0.count result.0.scan }
+    ensures counted { IsCounted bytes.now result.0.count result.0.items }
     ensures ends { EndsSo bytes.now result.0.count result.0.scan result.1 }
 {
     let mut count = from.count;
+    let mut items = from.items;
     let mut scan = from.scan;
     'scanning: while count < bytes.len() {
         if let Some((behind, len)) = skip_string(scan, bytes.len() - count) {
@@ -73,15 +77,46 @@ pub fn proceed(from: Progress, bytes: &[u8]) -> (Progress, End)
         } else {
             match take_byte(scan, bytes[count]) {
                 Step::On(next) => {
+                    items += begun(scan.lex, next.lex);
                     scan = next;
                     count += 1;
                 }
-                Step::Whole => return (Progress { count, scan }, End::Whole),
-                Step::Bad(defect) => return (Progress { count, scan }, End::Bad(defect)),
+                Step::Whole => return (Progress { count, items, scan }, End::Whole),
+                Step::Bad(defect) => return (Progress { count, items, scan }, End::Bad(defect)),
             }
         }
     }
-    (Progress { count, scan }, End::More)
+    (Progress { count, items, scan }, End::More)
+}
+
+/// Says how many items begin with the byte between `from` and `to`: one, or none.
+fn begun(from: Lex, to: Lex) -> usize
+    ensures { result ≡ begun from to }
+{
+    match (from, to) {
+        (Lex::Gap, Lex::Open) => 1,
+        (Lex::Gap, Lex::Word) => 1,
+        (Lex::Gap, Lex::Number(_)) => 1,
+        _ => 0,
+    }
+}
+
+/// Says how many items are still to begin at least: one where none has.
+pub fn lacking(scan: Scan) -> usize
+    ensures { result ≡ lacking scan }
+{
+    match scan.lex {
+        Lex::Gap => one_if(scan.depth == 0),
+        Lex::Open => one_if(scan.depth == 0),
+        _ => 0,
+    }
+}
+
+/// Gives one if that holds, and else none.
+fn one_if(holds: bool) -> usize
+    ensures { result ≡ (if holds then 1 else 0) }
+{
+    if holds { 1 } else { 0 }
 }
 
 // In a string: past as many of its bytes as there are.

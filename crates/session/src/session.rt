@@ -1,5 +1,6 @@
 //! A session with one client.
 ghost use Rattle.std.specs.Prelude.{◌≡◌, ◌++◌, [], length, true, false, IfOk, OnOk, OnErr, IsErrOf, option_copied};
+ghost use Rattle.items.specs.Counting.{CountsItems};
 ghost use Rattle.repo_api.specs.Soundness.{AreSound};
 ghost use Rattle.access.specs.Points.{content_of};
 ghost use Rattle.machine.specs.{Stages.{is_open, StandsOn, user_in}, Steps.{FeedLost, FeedWritten}};
@@ -124,6 +125,13 @@ impl<R: Repository> Session<R> {
         ensures { result ≡ length self.now.rest }
     {
         self.reader.unread_len()
+    }
+
+    /// Says how many items, in lists of any depth and with itself, the one that is not whole yet has at least.
+    pub fn unread_items(&self) -> usize
+        ensures { CountsItems result self.now.rest }
+    {
+        self.reader.unread_items()
     }
 
     /// Gives the user that the client has logged in as, if it has.

@@ -3,7 +3,7 @@ use Rattle.std.proofs.Common.{◌≡◌, ◌+◌, ◌<◌, ℕ, List, length, ta
 use Rattle.items.specs.{declared.scan.End.End, Values.{ItemValue, limits}, Stream.IsItem, Scan.step, Run.{IsScanned, EndsSo}, Unread.Unread}
 use Rattle.items.specs.{Reading.{HasNone, IsFaultOf}, Faults.fault_of}
 use Rattle.items.specs.declared.scan.Step.TheVariants as steps
-use Rattle.items.proofs.Scanned.{none_scanned, none_yet, item_there, wrong_there, is_fault}
+use Rattle.items.proofs.{Counted.none_counted, Scanned.{none_scanned, none_yet, item_there, wrong_there, is_fault}}
 use Rattle.items.proofs.reader.ItemReader.next.Goals as goal
 
 pub build-requires : goal.build-requires
@@ -17,7 +17,7 @@ build-requires c =
     subst P (c.as_slice.ensures ∙ sym c.as_slice-in-Whole.ensures) (item_there bytes n s c.proceed-end.ensures.scanned ends.0 ends.1)
 
 pub invariant_of-self-in-Whole : goal.invariant_of-self-in-Whole
-invariant_of-self-in-Whole c = none_scanned c.advance.new.self.items
+invariant_of-self-in-Whole c = (none_scanned c.advance.new.self.items, none_counted c.advance.new.self.items)
 
 pub returns-in-More-clause-none : goal.returns-in-More-clause-none
 returns-in-More-clause-none c =
