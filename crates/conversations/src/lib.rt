@@ -4,6 +4,7 @@
 mod envs;
 mod fault;
 mod gate;
+mod limits;
 mod pieces;
 mod sink;
 mod watch;

@@ -9,6 +9,7 @@ ghost use Rattle.conversations.specs.Conversation.{sight, Conversed, Fed, Served
 use crate::envs::EnvSource;
 use crate::fault::TalkFault;
 use crate::gate::Gate;
+use crate::limits::is_past_limits;
 use crate::pieces::read_piece;
 use crate::sink::{OutputSink, PIECE, write_and_flush};
 use crate::watch::Watch;
@@ -21,9 +22,6 @@ use std::alloc::Global;
 use std::io;
 use std::io::{Read, Write};
 use wire_replies::Reply;
-
-/// How many bytes of an item that is not whole yet are held at most, but for a piece: 64 MiB.
-const MAX_UNREAD: usize = 67_108_864;
 
 /// Makes the greeting.
 fn greeting(alloc: Global) -> Result<Vec<u8>, TalkFault>
@@ -118,7 +116,7 @@ impl<'w, A: RepoAccess + Drop, E: EnvSource + Drop, G: Gate, W: Watch> Worker<'w
     }
 
     /// Answers pieces of the input, each before the next is read, until it ends or the session isn't open any more. An
-    /// item that is too long ends it too.
+    /// item that is not whole within the limits ends it too: it may pass them by what comes with one piece.
     fn converse<I: Read, O: Write>(
         &mut self,
         number: u64,
@@ -139,7 +137,7 @@ impl<'w, A: RepoAccess + Drop, E: EnvSource + Drop, G: Gate, W: Watch> Worker<'w
             if !session.is_open() {
                 return Ok(());
             }
-            if session.unread_len() > MAX_UNREAD {
+            if is_past_limits(&session) {
                 return Err(TalkFault::TooLong);
             }
             self.gate.awaits(number, session.awaited());
