@@ -1,17 +1,17 @@
 -- That the names of what stands beneath a path are all.
 use Rattle.std.proofs.Common.{◌≡◌, arith, ℕ, ◌+◌, ◌<◌, Bool, true, false, cond, ◌&&◌, ◌||◌, List, [], ◌∷◌, ◌++◌, length, drop, Option, Some, None, Result, Ok}
-use Rattle.std.proofs.{Common.{Err, refl, sym, ap, ◌∙◌, subst, option_map}, lemmas.Bool.false≢true, lemmas.List.{append_assoc, append-nil, length-append}}
+use Rattle.std.proofs.{Common.{Err, inl, inr, ⊎_elim, refl, sym, ap, ◌∙◌, subst, option_map}, lemmas.Bool.false≢true, lemmas.List.{append_assoc, append-nil, length-append}}
 use Rattle.std.specs.{List.list_any, Prelude.{IsTrue, IsSome, IsSomeAnd, IfOk, OnOk, is_some, option_copied}, FinMap.get}
 use Rattle.svnpath.specs.{PathLaws.{rest_append, same_component_refl, under_append, under_is}, Paths.{Component, is_at_or_under, PathValue}}
 use Rattle.repo_api.specs.{Readings.{name_in, names_at}, States.{RepoState, tree_at, trees_in}, Trees.{is_directory, Tree}, declared.entry.Entry.Entry}
-use Rattle.drive_rules.proofs.{Joined.{or_left, or_right}, Entries.no_length}
-use Rattle.drive_rules.specs.{Scopes.{below, depth_below, HoldsTogether}, declared.depth.Depth.Depth}
+use Rattle.drive_rules.proofs.{Joined.{or_left, or_right}, Entries.{no_length, under_more}}
+use Rattle.drive_rules.specs.{Scopes.{below, depth_below, HoldsTogether, within}, declared.depth.Depth.Depth}
 use Rattle.drive_rules.specs.declared.depth.Depth.TheVariants.{Empty, Files, Immediates, Infinity}
-use Rattle.drive_reports.proofs.Holding.{below_longer, longer_below}
-use Rattle.drive_reports.specs.{Places.{in_place, is_grafted_over, reported_subtree}, Reported.{ReportedEntry, left_by, reported_entries, reported_as}}
-use Rattle.drive_reports.specs.{Targets.{WholeReport, client_tree, drive_scope, goal_path, new_tree, old_tree, target_tree}, declared.ask.DriveAsk.DriveAsk}
+use Rattle.drive_reports.proofs.Holding.{all_hold, below_longer, longer_below}
+use Rattle.drive_reports.specs.{Places.{AllHoldTogether, in_place, is_grafted_over, reported_subtree}, Reported.{ReportedEntry, left_by, reported_entries, reported_as}}
+use Rattle.drive_reports.specs.{Targets.{WholeReport, client_entries, client_tree, drive_scope, goal_path, new_tree, old_tree, target_tree}, declared.ask.DriveAsk.DriveAsk}
 use Rattle.drive_reports.specs.{declared.graft.Graft.Graft, declared.reported.ReportedPlace.ReportedPlace}
-use Rattle.drive_sides.specs.Names.{is_name_among, graft_names}
+use Rattle.drive_sides.specs.{Depths.IsAlone, Names.{is_name_among, graft_names, NameNew}}
 use Rattle.drive_sides.proofs.Naming.{among_there, among_grafts, is_named, name_of_child}
 
 -- ---- what is to stand there
@@ -134,15 +134,74 @@ old_named s report p mid after adds grafts holds c some = by (is_grafted_over re
         grafts c ∙ or_left (is_name_among mid c) (is_name_among (graft_names p report.grafts) c)
         (adds c free (in_old s report p (above_child (old_tree s report) p c holds some)) (in_old s report (p ++ c ∷ []) some))
 
+-- what the client has in a directory it has in a directory that it has
+pub client_above : (s : RepoState) (report : WholeReport) (p : PathValue) (c : Component) → AllHoldTogether s.revisions → is_at_or_under p report.ask.target ≡ true
+    → is_some (client_tree s report (p ++ c ∷ [])) ≡ true → is_some (client_tree s report p) ≡ true
+client_above s report p c together up some =
+    mapped (λ (h : ReportedEntry). h.entry) (client_tree s report p)
+    (above_child (reported_entries (client_tree s report)) p c (λ q r at low there. all_hold (trees_in s.revisions) report.ask.target report.grafts together q r (under_more q p report.ask.target at up) low there)
+    (entry_there (client_tree s report (p ++ c ∷ [])) some))
+  where
+    entry_there : (o : Option ReportedEntry) → is_some o ≡ true → is_some (option_map (λ (h : ReportedEntry). h.entry) o) ≡ true
+    entry_there None h = h
+    entry_there (Some x) h = refl
+
 -- the names of the new side are all
-pub new_named : (s : RepoState) (report : WholeReport) (p : PathValue) (first mid after : List Component)
-    → ((c : Component) → is_at_or_under p report.ask.target ≡ true → is_some (target_tree s report.ask (p ++ c ∷ [])) ≡ true → is_name_among first c ≡ true)
+pub new_named : (s : RepoState) (report : WholeReport) (p : PathValue) (first mid after : List Component) → AllHoldTogether s.revisions → NameNew first s report p
     → ((c : Component) → is_name_among first c ≡ true → is_name_among mid c ≡ true)
+    → ((c : Component) → is_grafted_over report.grafts p (p ++ c ∷ []) ≡ false → is_some (client_tree s report p) ≡ true → is_some (client_tree s report (p ++ c ∷ [])) ≡ true → is_name_among mid c ≡ true)
     → ((c : Component) → is_name_among after c ≡ (is_name_among mid c || is_name_among (graft_names p report.grafts) c))
     → HoldsTogether p (new_tree s report) → (c : Component) → IsSome (new_tree s report (p ++ c ∷ [])) → is_name_among after c ≡ true
-new_named s report p first mid after target keeps grafts holds c some =
-    grafts c ∙ or_left (is_name_among mid c) (is_name_among (graft_names p report.grafts) c)
-    (keeps c (target c (under_target s report.ask p (in_new s report p (above_child (new_tree s report) p c holds some))) (in_new s report (p ++ c ∷ []) some)))
+new_named s report p first mid after together named keeps adds grafts holds c some =
+    grafts c ∙ ⊎_elim (λ among. or_left (is_name_among mid c) (is_name_among (graft_names p report.grafts) c) (keeps c among))
+    (λ had. by (is_grafted_over report.grafts p (p ++ c ∷ [])) refl had) (named c up some)
+  where
+    up : is_at_or_under p report.ask.target ≡ true
+    up = under_target s report.ask p (in_new s report p (above_child (new_tree s report) p c holds some))
+
+    by : (b : Bool) → is_grafted_over report.grafts p (p ++ c ∷ []) ≡ b → is_some (client_tree s report (p ++ c ∷ [])) ≡ true → (is_name_among mid c || is_name_among (graft_names p report.grafts) c) ≡ true
+    by true over had = or_right (is_name_among mid c) (is_name_among (graft_names p report.grafts) c) (among_over report.grafts p c over)
+    by false free had = or_left (is_name_among mid c) (is_name_among (graft_names p report.grafts) c) (adds c free (client_above s report p c together up had) had)
+
+-- what is to stand in scope is named, where each name of the target is
+pub named_all : (s : RepoState) (report : WholeReport) (p : PathValue) (names : List Component)
+    → ((c : Component) → is_at_or_under p report.ask.target ≡ true → is_some (target_tree s report.ask (p ++ c ∷ [])) ≡ true → is_name_among names c ≡ true)
+    → NameNew names s report p
+named_all s report p names all c up some = inl (all c up (in_new s report (p ++ c ∷ []) some))
+
+-- and it is had, where what is not had is out of scope
+pub had_all : (s : RepoState) (report : WholeReport) (p : PathValue) (names : List Component)
+    → ((c : Component) → drive_scope s report (p ++ c ∷ []) ≡ true → is_some (client_entries s report (p ++ c ∷ [])) ≡ true)
+    → NameNew names s report p
+had_all s report p names had c up some =
+    inr (mapped (λ (h : ReportedEntry). h.entry) (client_tree s report (p ++ c ∷ [])) (had c (by (drive_scope s report (p ++ c ∷ [])) some)))
+  where
+    by : (b : Bool) → is_some (cond b (target_tree s report.ask (p ++ c ∷ [])) None) ≡ true → b ≡ true
+    by true h = refl
+    by false h = absurd (false≢true h)
+
+-- where no child is in scope, nothing is named
+pub none_named : (s : RepoState) (report : WholeReport) (p : PathValue) (t : Tree) → ((c : Component) → drive_scope s report (p ++ c ∷ []) ≡ false)
+    → (c : Component) → IsSome (within (drive_scope s report) t (p ++ c ∷ [])) → is_name_among [] c ≡ true
+none_named s report p t out c some = absurd (false≢true (sym (ap (λ b. is_some (cond b (t (p ++ c ∷ [])) None)) (out c)) ∙ some))
+
+-- a place of which nothing beneath is had has nothing in it
+pub none_in : (trees : ℕ → Tree) (place : ReportedPlace) (c : Component) → IsAlone place → is_some (in_place trees place (c ∷ [])) ≡ true → (names : List Component) → is_name_among names c ≡ true
+none_in trees place c alone some names = absurd (false≢true (sym (ap is_some (none alone)) ∙ some))
+  where
+    shown : Entry → ReportedEntry
+    shown = reported_as (reported_subtree place.revision place.starts_empty place.depth (option_copied place.token)) (depth_below place.depth) None
+
+    stood : Option Entry
+    stood = trees place.revision (place.path ++ c ∷ [])
+
+    empty : (b : Bool) → cond b None (option_map shown (left_by Empty [] stood)) ≡ None
+    empty true = refl
+    empty false = refl
+
+    none : IsAlone place → in_place trees place (c ∷ []) ≡ None
+    none = ⊎_elim (λ starts. ap (λ b. cond b None (option_map shown (left_by place.depth [] stood))) starts)
+        (λ deep. ap (λ d. cond place.starts_empty None (option_map shown (left_by d [] stood))) deep ∙ empty place.starts_empty)
 
 pub if_ok_both : {T E : Type 0} {P Q S : T → Type 0} → ((x : T) → P x → Q x → S x) → (r : Result T E) → IfOk r P → IfOk r Q → IfOk r S
 if_ok_both f (Ok x) p q = f x p q

@@ -28,7 +28,7 @@ all_in_scope old new top q up = ap (λ b. b && stays_in_scope (Given Infinity) o
 abbrev pub IsSoFar : DepthLimit → Tree → Tree → PathValue → PathValue → PathValue → Depth → List Component → Type 0
 IsSoFar limit old new top q here depth names = stays_in_scope limit old new top (top_limit limit top) (drop (length top) q) ≡ stays_in_scope limit old new here depth names
 
-next_name : (names : List Component) (i : ℕ) (x : Component) → i < length names → x ≡ get_or names i x → drop i names ≡ x ∷ drop (i + 1) names
+pub next_name : (names : List Component) (i : ℕ) (x : Component) → i < length names → x ≡ get_or names i x → drop i names ≡ x ∷ drop (i + 1) names
 next_name names i x h is = (rw (add-one, drop-cons names i x) refl) ∙ ap (λ y. y ∷ drop (i + 1) names) (sym is)
 
 next_step : (limit : DepthLimit) (old new : Tree) (here child : PathValue) (depth : Depth) (names : List Component) (i : ℕ) (x : Component) → i < length names → x ≡ get_or names i x → child ≡ here ++ x ∷ []
@@ -57,7 +57,7 @@ goes_on limit old new top q here child depth next names i x b far lt is child_is
     ∙ ap (λ u. u && stays_in_scope limit old new child (own_or_inherited (depth_said limit child) depth) (drop (i + 1) names)) (sym lets ∙ some)
     ∙ ap (λ d. stays_in_scope limit old new child d (drop (i + 1) names)) (sym next_is)
 
-no_more : (names : List Component) (i : ℕ) → length names ≤ i → drop i names ≡ []
+pub no_more : (names : List Component) (i : ℕ) → length names ≤ i → drop i names ≡ []
 no_more [] zero le = refl
 no_more [] (suc i) le = refl
 no_more (x ∷ names) zero le = absurd (omega (le, arith))

@@ -1,8 +1,14 @@
--- Reports of everything.
-use Rattle.std.specs.{Prelude.{◌≡◌, true, false}, List.list_any}
-use Rattle.drive_reports.specs.{Depths.{is_shallow, is_to_the_end}, Targets.WholeReport, declared.ask.DepthAsked.TheVariants.AsReported}
+-- Depths of directories, in reports and in drives.
+use Rattle.std.specs.{Prelude.{◌≡◌, ◌⊎◌, true, false, List, [], ◌∷◌, ◌++◌, length, drop, is_some}, List.list_any}
+use Rattle.svnpath.specs.Paths.{Component, PathValue}
+use Rattle.repo_api.specs.States.{RepoState}
+use Rattle.drive_reports.specs.{Depths.{is_shallow, is_to_the_end}, Targets.{WholeReport, client_entries, drive_limit, drive_scope}}
+use Rattle.drive_reports.specs.{declared.ask.DepthAsked.DepthAsked, declared.ask.DepthAsked.TheVariants.{AsReported, Given}}
 use Rattle.drive_reports.specs.declared.reported.ReportedPlace.{ReportedPlace}
-use Rattle.drive_rules.specs.declared.depth.Depth.TheVariants.{Infinity}
+use Rattle.drive_rules.specs.{Scopes.{depth_said, DepthLimit, own_or_inherited, top_limit}, declared.depth.Depth.Depth}
+use Rattle.drive_rules.specs.declared.depth.Depth.TheVariants.{Empty, Files, Immediates, Infinity}
+use Rattle.drive_sides.specs.declared.reach.Reach.{Reach}
+use Rattle.drive_sides.specs.declared.reach.Reach.TheVariants.{NoChild, ChildHad, AnyChild}
 
 -- as much is asked for as was reported, and everything was reported
 abbrev pub FollowsWholeReport : WholeReport → Type 0
@@ -13,3 +19,37 @@ FollowsWholeReport report =
 -- all that stands at a place and beneath it is had
 abbrev pub IsWhole : ReportedPlace → Type 0
 IsWhole place = (place.starts_empty ≡ false) × (place.depth ≡ Infinity)
+
+-- nothing that stands beneath a place is had
+abbrev pub IsAlone : ReportedPlace → Type 0
+IsAlone place = (place.starts_empty ≡ true) ⊎ (place.depth ≡ Empty)
+
+-- the depth of a directory that these names lead down to, from a directory of this depth
+abbrev pub depth_down : DepthLimit → PathValue → Depth → List Component → Depth
+depth_down limit here depth [] = depth
+depth_down limit here depth (c ∷ rest) =
+    let child = here ++ c ∷ [] in
+    depth_down limit child (own_or_inherited (depth_said limit child) depth) rest
+
+-- how deep a drive goes from a directory at or under its target
+abbrev pub depth_at : RepoState → WholeReport → PathValue → Depth
+depth_at c report p =
+    let top = report.ask.target in
+    depth_down (drive_limit c report) top (top_limit (drive_limit c report) top)
+    (drop (length top) p)
+
+-- which children a drive of this depth can be of, by what is asked for
+abbrev pub reach_of : Depth → DepthAsked → Reach
+reach_of Empty (Given depth) = NoChild
+reach_of Empty AsReported = ChildHad
+reach_of Files asked = AnyChild
+reach_of Immediates asked = AnyChild
+reach_of Infinity asked = AnyChild
+
+-- of which children of a directory a drive can be: of none; of those that the client has; of any
+abbrev pub Reaches : Reach → RepoState → WholeReport → PathValue → Type 0
+Reaches NoChild c report p = (x : Component) → drive_scope c report (p ++ x ∷ []) ≡ false
+Reaches ChildHad c report p =
+    (x : Component) → drive_scope c report (p ++ x ∷ []) ≡ true
+    → is_some (client_entries c report (p ++ x ∷ [])) ≡ true
+Reaches AnyChild c report p = Unit {0}

@@ -1,7 +1,7 @@
-//! What a client has whole.
+//! What a client has whole, and what it has alone.
 ghost use Rattle.std.specs.Prelude.{◌≡◌, true, None, option_copied};
 ghost use Rattle.repo_api.specs.Readings.{IsSameAt};
-ghost use Rattle.drive_sides.specs.Depths.{IsWhole};
+ghost use Rattle.drive_sides.specs.Depths.{IsAlone, IsWhole};
 
 use drive_reports::ReportedPlace;
 use drive_rules::Depth;
@@ -20,6 +20,21 @@ pub(crate) fn is_whole(place: &ReportedPlace<'_>) -> bool
         Depth::Immediates => false,
         Depth::Files => false,
         Depth::Empty => false,
+    }
+}
+
+/// Says whether a client has nothing of what exists beneath a place.
+pub(crate) fn is_alone(place: &ReportedPlace<'_>) -> bool
+    ensures { result ≡ true → IsAlone place.now }
+{
+    if place.starts_empty {
+        return true;
+    }
+    match place.depth {
+        Depth::Empty => true,
+        Depth::Files => false,
+        Depth::Immediates => false,
+        Depth::Infinity => false,
     }
 }
 

@@ -5,6 +5,7 @@ mod alike;
 mod names;
 mod pairs;
 mod planning;
+mod reach;
 mod scope;
 mod sides;
 mod telling;

@@ -1,10 +1,13 @@
 //! The names of what a directory has on either side.
-ghost use Rattle.std.specs.Prelude.{◌≡◌, IfOk, OnOk, option_copied};
-ghost use Rattle.repo_api.specs.Readings.{name_in, names_at};
-ghost use Rattle.drive_sides.specs.Names.{children_of, graft_names, AreDistinct, ArePut};
+ghost use Rattle.std.specs.Prelude.{◌≡◌, ◌∷◌, [], true, is_some, IfOk, OnOk, option_copied};
+ghost use Rattle.svnpath.specs.Paths.{Component};
+ghost use Rattle.repo_api.specs.{Readings.{name_in, names_at}, States.trees_in};
+ghost use Rattle.drive_reports.specs.Places.{in_place};
+ghost use Rattle.drive_sides.specs.Names.{children_of, graft_names, is_name_among, AreDistinct, ArePut};
 
+use crate::alike::is_alone;
 use byte_string::ByteString;
-use drive_reports::Graft;
+use drive_reports::{Graft, ReportedPlace};
 use repo_api::Repository;
 use std::alloc::{AllocError, Global};
 use std::collections::BTreeSet;
@@ -25,6 +28,24 @@ pub(crate) fn put_names<R: Repository>(
         names.insert((*name).clone()?)?;
     }
     Ok(())
+}
+
+/// Puts the names of what a client has straight beneath a place among others.
+pub(crate) fn put_place_names<R: Repository>(
+    view: &R,
+    place: &ReportedPlace<'_>,
+    names: &mut BTreeSet<ByteString>,
+) -> Result<(), AllocError>
+    ensures keeps { OnOk result ((c : Component) → is_name_among names.old.keys c ≡ true
+        → is_name_among names.new.keys c ≡ true) }
+    ensures adds { OnOk result ((c : Component)
+        → is_some (in_place (trees_in (R.content view.now).revisions) place.now (c ∷ [])) ≡ true
+        → is_name_among names.new.keys c ≡ true) }
+{
+    if is_alone(place) {
+        return Ok(());
+    }
+    put_names(view, place.revision, &place.path, names)
 }
 
 /// Gives the name of a path that is straight beneath another, if it is.

@@ -4,8 +4,9 @@ ghost use Rattle.svnpath.specs.Paths.{is_at_or_under};
 ghost use Rattle.repo_api.specs.{Kinds.kind_of, declared.entry.Entry.Entry};
 ghost use Rattle.drive_rules.specs.Scopes.{depth_said, includes, includes_child, keeps_reported, own_or_inherited, top_limit};
 ghost use Rattle.drive_reports.specs.Targets.{client_tree, drive_scope, reported_depth, drive_limit, client_entries, target_entries};
-ghost use Rattle.drive_sides.specs.{OnTrees.on_trees, Pairs.IsOfAll, Plans.whole, Depths.FollowsWholeReport};
+ghost use Rattle.drive_sides.specs.{OnTrees.on_trees, Pairs.IsOfAll, Plans.whole, Depths.{depth_at, FollowsWholeReport, Reaches}};
 
+use crate::reach::{Reach, reach_of};
 use crate::two_trees::TwoTrees;
 use drive_reports::{DepthAsked, is_to_the_end};
 use drive_rules::Depth;
@@ -181,5 +182,34 @@ impl<'a, R: Repository> TwoTrees<'a, R> {
             return Ok(true);
         }
         self.stays_in_scope(alloc, path)
+    }
+    /// Finds how deep a drive goes from a directory at or under its target.
+    fn depth_at(&self, alloc: Global, path: &Path) -> Result<Depth, AllocError>
+        requires { is_at_or_under path.now self.now.report.now.ask.target ≡ true }
+        ensures { IfOk result (λ d. d ≡ on_trees self.now depth_at path.now) }
+    {
+        let target = self.report.ask.target.as_path();
+        let mut depth = self.top_limit(alloc)?;
+        let mut here = target.clone()?;
+        for name in &path.components()[target.len()..] {
+            here = here.child(alloc, name.clone()?)?;
+            depth = own_or_inherited(self.own_depth(alloc, &here)?, depth);
+        }
+        Ok(depth)
+    }
+
+    /// Says which children of a directory a drive can be of.
+    pub(crate) fn reach(&self, alloc: Global, path: &Path) -> Result<Reach, AllocError>
+        ensures { IfOk result (λ reach. on_trees self.now (Reaches reach) path.now) }
+    {
+        let ask = &self.report.ask;
+        if !path.is_at_or_under(ask.target.as_path()) {
+            return Ok(Reach::AnyChild);
+        }
+        if self.is_of_all() {
+            return Ok(Reach::AnyChild);
+        }
+        let depth = self.depth_at(alloc, path)?;
+        Ok(reach_of(depth, ask.depth))
     }
 }

@@ -1,7 +1,8 @@
 //! The two trees of a drive, as a walk over them asks.
 use crate::alike::has_same;
-use crate::names::{children_of, put_graft_names, put_names};
+use crate::names::{children_of, put_graft_names, put_names, put_place_names};
 use crate::pairs::{are_same, key_of};
+use crate::reach::Reach;
 use crate::two_trees::TwoTrees;
 use crate::views::had_at;
 use byte_string::ByteString;
@@ -16,7 +17,8 @@ impl<'a, R: Repository> TwoTrees<'a, R> {
     ghost use Rattle.std.specs.Prelude.{◌≡◌, ◌∷◌, ◌++◌, [], false, true, is_some, IfOk, OnOk};
     ghost use Rattle.svnpath.specs.Paths.{Component, is_at_or_under};
     ghost use Rattle.drive_reports.specs.{Places.is_grafted_over, Targets.{client_tree, drive_scope, new_tree, old_tree, target_entries}};
-    ghost use Rattle.drive_sides.specs.{Names.is_name_among, OnTrees.on_trees};
+    ghost use Rattle.drive_sides.specs.{Names.{is_name_among, NameNew}, OnTrees.on_trees, Plans.drive_trees};
+    ghost use Rattle.reporter.specs.Walks.{IsListed};
     ghost use Rattle.drive_news.specs.Places.{Compares};
 
     /// Finds the names of what is to exist straight beneath a path.
@@ -54,8 +56,25 @@ impl<'a, R: Repository> TwoTrees<'a, R> {
     {
         match self.client_place(alloc, path)? {
             None => Ok(()),
-            Some(place) => put_names(self.view, place.revision, &place.path, names),
+            Some(place) => put_place_names(self.view, &place, names),
         }
+    }
+
+    /// Makes the paths of what a directory has on either side. The names are those of what is to exist there, as far as
+    /// the client does not have it.
+    fn listed(
+        &self,
+        alloc: Global,
+        path: &Path,
+        new: BTreeSet<ByteString>,
+    ) -> Result<Vec<Path>, AllocError>
+        requires { on_trees self.now (NameNew new.keys) path.now }
+        ensures { IfOk result (λ v. IsListed (on_trees self.now drive_trees) path.now v.items) }
+    {
+        let mut names = new;
+        self.put_client_names(alloc, path, &mut names)?;
+        put_graft_names(self.report.grafts.as_slice(), path, &mut names)?;
+        children_of(alloc, path, names)
     }
 
     /// Says whether an entry of the drive differs on both sides.
@@ -106,10 +125,14 @@ impl<'a, R: Repository> Sides for TwoTrees<'a, R> {
     }
 
     fn children(&self, alloc: Global, path: &Path) -> Result<Vec<Path>, AllocError> {
-        let mut names = self.target_names(alloc, path)?;
-        self.put_client_names(alloc, path, &mut names)?;
-        put_graft_names(self.report.grafts.as_slice(), path, &mut names)?;
-        children_of(alloc, path, names)
+        match self.reach(alloc, path)? {
+            Reach::NoChild => Ok(Vec::new(alloc)),
+            Reach::ChildHad => self.listed(alloc, path, BTreeSet::new(alloc)),
+            Reach::AnyChild => {
+                let names = self.target_names(alloc, path)?;
+                self.listed(alloc, path, names)
+            }
+        }
     }
 
     fn is_alike(&self, alloc: Global, path: &Path) -> Result<bool, AllocError> {

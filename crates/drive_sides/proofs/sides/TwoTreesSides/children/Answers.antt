@@ -1,18 +1,29 @@
-use Rattle.std.proofs.Common.{◌||◌, sym, ap, subst, ◌∙◌}
+use Rattle.std.proofs.Common.{[], subst, sym}
 use Rattle.reporter.specs.Walks.{IsListed}
 use Rattle.reporter.proofs.Children.{children_all, children_are}
-use Rattle.drive_reports.specs.Targets.{new_tree, old_tree}
-use Rattle.drive_sides.specs.{Names.{ArePut, graft_names, is_name_among}, Plans.{drive_trees, whole}}
-use Rattle.drive_sides.proofs.Listing.{if_ok_both, new_named, old_named}
+use Rattle.drive_reports.specs.{Reported.reported_entries, Targets.{client_tree, new_tree, old_tree, target_tree}}
+use Rattle.drive_sides.specs.{Depths.Reaches, Plans.{drive_trees, whole}}
+use Rattle.drive_sides.specs.declared.reach.Reach.{Reach}
+use Rattle.drive_sides.specs.declared.reach.Reach.TheVariants.{NoChild}
+use Rattle.drive_sides.proofs.Listing.{had_all, named_all, none_named}
 use Rattle.drive_sides.proofs.sides.TwoTreesSides.children.Goals as goal
 
-pub returns : goal.returns
-returns g c =
-    let put : ArePut (graft_names c.args.path.now c.args.self.now.report.now.grafts) c.put_client_names.new.names.keys c.put_graft_names.new.names.keys = λ x. c.in_ok-put_graft_names.ensures x ∙ ap (λ gs. is_name_among c.put_client_names.new.names.keys x || is_name_among (graft_names c.args.path.now gs) x) c.as_slice.ensures in
-    if_ok_both (λ v is distinct. subst (IsListed (drive_trees (g.R.Repository.content c.args.self.now.view.now) (whole c.args.self.now.report.now c.args.self.now.root)) c.args.path.now) (sym is) (record {
-      children = children_are c.args.path.now c.put_graft_names.new.names.keys distinct;
-      all_old = λ holds. children_all (old_tree (g.R.Repository.content c.args.self.now.view.now) (whole c.args.self.now.report.now c.args.self.now.root)) c.args.path.now c.put_graft_names.new.names.keys holds
-          (old_named (g.R.Repository.content c.args.self.now.view.now) (whole c.args.self.now.report.now c.args.self.now.root) c.args.path.now c.put_client_names.new.names.keys c.put_graft_names.new.names.keys c.in_ok-put_client_names.ensures.adds put holds);
-      all_new = λ holds. children_all (new_tree (g.R.Repository.content c.args.self.now.view.now) (whole c.args.self.now.report.now c.args.self.now.root)) c.args.path.now c.put_graft_names.new.names.keys holds
-          (new_named (g.R.Repository.content c.args.self.now.view.now) (whole c.args.self.now.report.now c.args.self.now.root) c.args.path.now c.in_ok-names.names.keys c.put_client_names.new.names.keys c.put_graft_names.new.names.keys c.in_ok-names.ensures c.in_ok-put_client_names.ensures.keeps put holds);
-    })) c.children_of.result c.children_of.ensures.paths c.children_of.ensures.distinct
+pub returns-in-NoChild : goal.returns-in-NoChild
+returns-in-NoChild g c =
+    let out : Reaches NoChild (g.R.Repository.content c.args.self.now.view.now) (whole c.args.self.now.report.now c.args.self.now.root) c.args.path.now = subst (λ (r : Reach). Reaches r (g.R.Repository.content c.args.self.now.view.now) (whole c.args.self.now.report.now c.args.self.now.root) c.args.path.now) c.in-NoChild.is c.in_ok-reach.ensures in
+    subst (IsListed (drive_trees (g.R.Repository.content c.args.self.now.view.now) (whole c.args.self.now.report.now c.args.self.now.root)) c.args.path.now) (sym c.new.ensures.items) (record {
+      children = children_are c.args.path.now [] tt;
+      all_old = λ holds. children_all (old_tree (g.R.Repository.content c.args.self.now.view.now) (whole c.args.self.now.report.now c.args.self.now.root)) c.args.path.now [] holds
+          (none_named (g.R.Repository.content c.args.self.now.view.now) (whole c.args.self.now.report.now c.args.self.now.root) c.args.path.now (reported_entries (client_tree (g.R.Repository.content c.args.self.now.view.now) (whole c.args.self.now.report.now c.args.self.now.root))) out);
+      all_new = λ holds. children_all (new_tree (g.R.Repository.content c.args.self.now.view.now) (whole c.args.self.now.report.now c.args.self.now.root)) c.args.path.now [] holds
+          (none_named (g.R.Repository.content c.args.self.now.view.now) (whole c.args.self.now.report.now c.args.self.now.root) c.args.path.now (target_tree (g.R.Repository.content c.args.self.now.view.now) c.args.self.now.report.now.ask) out);
+    })
+
+pub listed-requires : goal.listed-requires
+listed-requires g c =
+    had_all (g.R.Repository.content c.args.self.now.view.now) (whole c.args.self.now.report.now c.args.self.now.root) c.args.path.now _
+    (subst (λ (r : Reach). Reaches r (g.R.Repository.content c.args.self.now.view.now) (whole c.args.self.now.report.now c.args.self.now.root) c.args.path.now) c.in-ChildHad.is c.in_ok-reach.ensures)
+
+pub listed-requires-in-AnyChild : goal.listed-requires-in-AnyChild
+listed-requires-in-AnyChild g c =
+    named_all (g.R.Repository.content c.args.self.now.view.now) (whole c.args.self.now.report.now c.args.self.now.root) c.args.path.now c.in_ok-names-in-AnyChild.names.keys c.in_ok-names-in-AnyChild.ensures
