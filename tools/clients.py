@@ -20,6 +20,9 @@ USERS = {"alice": b"secret", "bob": b"hidden"}
 NAME = "r"
 URL = "svn://127.0.0.1/r"
 
+# of how many revisions a shard is where borders of shards are to be crossed
+SMALL_SHARD = 2
+
 # what a client is told that finds no place, and what it is told behind a halt
 FULL = b"( failure ( ( 200007 13:not supported 0: 0 ) ) ) "
 
@@ -265,14 +268,22 @@ def free_port():
         return listener.getsockname()[1]
 
 
-class Server:
-    """A server that runs at a repository in a folder, which is made of a format where it is missing."""
+def sharded(size):
+    """The file `format` of a folder of format 3 whose shards have so many revisions."""
+    return b"3\nlayout sharded %d\n" % size
 
-    def __init__(self, program, room, address_space=None, format=3):
+
+class Server:
+    """A server that runs at a repository in a folder. Where it is missing it is made, of a format, and with shards of so many
+    revisions if that is said."""
+
+    def __init__(self, program, room, address_space=None, format=3, shard=None):
         self.program, self.folder, self.port = program, room / "repository", free_port()
         self.users, self.journal = room / "users", room / "journal"
         if not self.folder.exists():
             subprocess.run([program, "create", "--format", str(format), self.folder], check=True)
+            if shard:
+                (self.folder / "db/format").write_bytes(sharded(shard))
         self.users.write_bytes(b"[users]\n" + b"".join(b"%s = %s\n" % (name.encode(), word) for name, word in USERS.items()))
         self.users.chmod(0o600)
         words = [program, "serve", self.folder, "--listen", f"127.0.0.1:{self.port}", "--name", NAME]

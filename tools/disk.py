@@ -11,7 +11,7 @@ import itertools
 import math
 import os
 
-FORGETS = ("fsync-file", "fsync-folder", "fsync-opening")
+FORGETS = ("fsync-file", "fsync-folder", "fsync-shards", "fsync-opening")
 
 
 def written(content, step):
@@ -101,6 +101,13 @@ def digest_of(layout):
     return found.hexdigest()
 
 
+def kinds_of(path, node):
+    """Of which kinds an fsync is."""
+    if isinstance(node, File):
+        return ("fsync-file",)
+    return ("fsync-folder", "fsync-shards") if os.path.basename(path) in ("revs", "revprops") else ("fsync-folder",)
+
+
 class Disk:
     """A folder, and what the disk has of it. Paths are from that folder on; a layout is the bytes of all files by their paths,
     with None for a folder. The kind of fsync that is named by `forgets` is passed over, as if no program asked for it."""
@@ -167,7 +174,7 @@ class Disk:
     def sync(self, path):
         """The disk has a file's bytes, or a folder's names, from here on."""
         node = self.find(path)
-        if node is not None and self.forgets != ("fsync-folder" if isinstance(node, Folder) else "fsync-file"):
+        if node is not None and self.forgets not in kinds_of(path, node):
             self.settled(node)
 
     def settle(self, path):

@@ -136,7 +136,7 @@ def is_replacement(renamed):
     """Whether one of the files that a change has put in their places so far was put in the place of another one: `current`, the
     locks, or properties of a revision that is there, which nothing else is written with."""
     return any(Path(path).name in ("current", "locks.dump") for path in renamed) or (
-        bool(renamed) and all(Path(path).parent.name == "revprops" for path in renamed)
+        bool(renamed) and all("revprops" in Path(path).parts for path in renamed)
     )
 
 
