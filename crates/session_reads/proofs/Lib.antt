@@ -2,3 +2,4 @@ pub mod Values
 pub mod Joined
 pub mod Each
 pub mod Listed
+pub mod Told

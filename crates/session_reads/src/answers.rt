@@ -4,11 +4,11 @@ ghost use Rattle.wire_replies.specs.Sinks.{Says};
 ghost use Rattle.machine.specs.{Answers.{Behind, Shows}, Commands.{read_answer, read_replies}, Steps.{Stepped, Looks}};
 ghost use Rattle.session_replies.specs.Telling.{told_before};
 
-use crate::directories::get_dir;
+use crate::directories::say_dir;
 use crate::entries::stat;
 use crate::files::say_file;
-use crate::locks::{get_lock, get_locks};
-use crate::reading::{check_path, rev_proplist};
+use crate::locks::{get_lock, say_locks_under};
+use crate::reading::{check_path, say_rev_proplist};
 use crate::revisions::{get_dated_rev, rev_prop};
 use crate::{locations, logs};
 use access::RepoAccess;
@@ -36,11 +36,11 @@ fn say_read<R: Repository, S: ReplySink>(
         ReadCommand::CheckPath(path, revision) => {
             say_made(check_path(alloc, view, base, path, *revision), out)
         }
-        ReadCommand::RevProplist(revision) => say_made(rev_proplist(alloc, view, *revision), out),
+        ReadCommand::RevProplist(revision) => say_rev_proplist(alloc, view, *revision, out),
         ReadCommand::GetLock(path) => say_made(get_lock(alloc, view, base, path), out),
-        ReadCommand::GetLocks(path) => say_made(get_locks(alloc, view, base, path), out),
+        ReadCommand::GetLocks(path) => say_locks_under(alloc, view, base, path, out),
         ReadCommand::GetFile(command) => say_file(alloc, view, base, command, out),
-        ReadCommand::GetDir(command) => say_made(get_dir(alloc, view, base, command), out),
+        ReadCommand::GetDir(command) => say_dir(alloc, view, base, command, out),
         ReadCommand::Stat(path, revision) => {
             say_made(stat(alloc, view, base, path, *revision), out)
         }

@@ -1,8 +1,8 @@
 //! Files, and their texts.
-ghost use Rattle.std.specs.Prelude.{◌≡◌, ◌∷◌, ◌++◌, []};
+ghost use Rattle.std.specs.Prelude.{◌≡◌, ◌∷◌, ◌++◌, [], IfOk};
 ghost use Rattle.svnpath.specs.Texts.{joined};
 ghost use Rattle.repo_api.specs.Kinds.{text_at};
-ghost use Rattle.wire_replies.specs.{Replies.contents, Sinks.Says, Made.Makes};
+ghost use Rattle.wire_replies.specs.{Replies.contents, Sinks.Says, declared.reply.Reply.Reply};
 ghost use Rattle.machine.specs.Readings.{file_at, file_replies, file_told, no_file, place_read, text_told};
 
 use crate::entries::shown_properties;
@@ -13,8 +13,9 @@ use history::Place;
 use refusals::Refusal;
 use repo_api::{FileText, NodeKind, Repository};
 use std::alloc::{AllocError, Global};
+use std::mem::drop;
 use svnpath::Path;
-use wire_replies::{FileInfo, Reply, ReplySink, say_contents, say_made, tell_refusal};
+use wire_replies::{FileInfo, Reply, ReplySink, say_contents, say_file_info, tell_refusal};
 
 /// Writes what is told of the file at a path, seen from the path of the client's URL.
 pub(crate) fn say_file<R: Repository, S: ReplySink>(
@@ -50,7 +51,7 @@ fn say_file_at<R: Repository, S: ReplySink>(
     match view.text(place.revision, &place.path) {
         Some(text) => {
             let told = file_told(alloc, view, command.wants_properties, place, text);
-            say_made(told, out)?;
+            say_told(alloc, told, out)?;
             say_wanted(command.wants_contents, text, out)
         }
         None => tell_refusal(no_file(view.kind(place.revision, &place.path)), out),
@@ -79,14 +80,34 @@ fn file_told<R: Repository>(
     wants_properties: bool,
     place: &Place,
     text: &FileText,
-) -> Result<Reply, AllocError>
-    ensures { Makes result (file_told (R.content view.now) wants_properties place.now text.now) }
+) -> Result<FileInfo, AllocError>
+    ensures { IfOk result (λ info. Reply.FileInfo info
+        ≡ file_told (R.content view.now) wants_properties place.now text.now) }
 {
-    Ok(Reply::FileInfo(FileInfo {
+    Ok(FileInfo {
         digest: Some(text.digest_text(alloc)?),
         revision: place.revision,
         properties: shown_properties(alloc, view, place, wants_properties)?,
-    }))
+    })
+}
+
+/// Writes what is sent of a file before its text, if it could be made.
+fn say_told<S: ReplySink>(
+    alloc: Global,
+    told: Result<FileInfo, AllocError>,
+    out: &mut S,
+) -> Result<(), AllocError>
+    ensures { (reply : Reply) → IfOk told (λ info. Reply.FileInfo info ≡ reply)
+        → Says result (S.writes out.old out.new) (reply ∷ []) }
+{
+    match told {
+        Ok(info) => {
+            let said = say_file_info(alloc, &info, out);
+            drop(info);
+            said
+        }
+        Err(error) => Err(error),
+    }
 }
 
 /// Says why there is no file: nothing exists there, or a directory.

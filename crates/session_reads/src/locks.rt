@@ -1,8 +1,9 @@
 //! Replies that tell locks.
+ghost use Rattle.std.specs.Prelude.{◌∷◌, []};
 ghost use Rattle.svnpath.specs.Texts.{joined};
 ghost use Rattle.repo_api.specs.Locking.{at_or_under};
 ghost use Rattle.machine.specs.Commands.{lock_at, locks_reply};
-ghost use Rattle.wire_replies.specs.Made.{Makes};
+ghost use Rattle.wire_replies.specs.{Made.Makes, Sinks.Says};
 
 use byte_string::ByteString;
 use refusals::path_refusal;
@@ -10,7 +11,7 @@ use repo_api::Repository;
 use sequence::Sequence;
 use std::alloc::{AllocError, Global};
 use svnpath::{Path, PathFault};
-use wire_replies::{LockList, Reply, copied_locks};
+use wire_replies::{LockList, Reply, ReplySink, copied_locks, say_locks, tell_refusal};
 
 /// Gives the lock at a path, seen from the path of the client's URL.
 pub(crate) fn get_lock<R: Repository>(
@@ -28,20 +29,21 @@ pub(crate) fn get_lock<R: Repository>(
     }
 }
 
-/// Gives the locks at a path and under it, seen from the path of the client's URL.
-pub(crate) fn get_locks<R: Repository>(
+/// Writes the locks at a path and under it, seen from the path of the client's URL.
+pub(crate) fn say_locks_under<R: Repository, S: ReplySink>(
     alloc: Global,
     view: &R,
     base: &Path,
     path: &ByteString,
-) -> Result<Reply, AllocError>
-    ensures { Makes result
-        (locks_reply (at_or_under (R.content view.now).locks) (joined base.now path.now)) }
+    out: &mut S,
+) -> Result<(), AllocError>
+    ensures { Says result (S.writes out.old out.new)
+        (locks_reply (at_or_under (R.content view.now).locks) (joined base.now path.now) ∷ []) }
 {
     match base.join(alloc, path.as_slice()) {
-        Ok(path) => Ok(Reply::Locks(locks_found(alloc, view, &path)?)),
+        Ok(path) => say_found(alloc, view, &path, out),
         Err(PathFault::NoMemory) => Err(AllocError),
-        Err(fault) => Ok(Reply::Failure(path_refusal(fault))),
+        Err(fault) => tell_refusal(path_refusal(fault), out),
     }
 }
 
@@ -55,10 +57,16 @@ fn lock_found<R: Repository>(alloc: Global, view: &R, path: &Path) -> Result<Loc
     }
 }
 
-/// Finds the locks that exist at a path and under it.
-fn locks_found<R: Repository>(alloc: Global, view: &R, path: &Path) -> Result<LockList, AllocError>
-    ensures { Makes result (at_or_under (R.content view.now).locks path.now) }
+/// Writes the locks that exist at a path and under it, one after another.
+fn say_found<R: Repository, S: ReplySink>(
+    alloc: Global,
+    view: &R,
+    path: &Path,
+    out: &mut S,
+) -> Result<(), AllocError>
+    ensures { Says result (S.writes out.old out.new)
+        (Reply.Locks (at_or_under (R.content view.now).locks path.now) ∷ []) }
 {
     let found = view.locks_under(path)?;
-    copied_locks(alloc, found.as_slice())
+    say_locks(alloc, found.as_slice(), out)
 }

@@ -6,7 +6,7 @@ ghost use Rattle.machine.specs.Histories.{all_joined, ended, log_ask, log_refusa
 ghost use Rattle.wire_replies.specs.Sinks.{Says};
 
 use crate::listing::{say_end, say_refused};
-use crate::log_entries::revision_told;
+use crate::log_entries::say_revision;
 use crate::paths::{all_joined, are_there, is_to_come};
 use commands::LogCommand;
 use history::{Log, LogAsk};
@@ -15,7 +15,7 @@ use repo_api::Repository;
 use std::alloc::{AllocError, Global};
 use std::mem::drop;
 use svnpath::{Path, PathFault};
-use wire_replies::{Reply, ReplySink, say_new};
+use wire_replies::{Reply, ReplySink};
 
 /// Gives the revision that is named, or the youngest.
 fn or_youngest<R: Repository>(view: &R, revision: Option<u64>) -> u64
@@ -50,23 +50,6 @@ fn log_refusal<R: Repository>(view: &R, ask: LogAsk, paths: &[Path]) -> Option<R
         None
     } else {
         Some(Refusal::NotFound)
-    }
-}
-
-/// Writes a revision.
-fn say_revision<R: Repository, S: ReplySink>(
-    alloc: Global,
-    view: &R,
-    wants_changes: bool,
-    revision: u64,
-    out: &mut S,
-) -> Result<(), AllocError>
-    ensures { Says result (S.writes out.old out.new)
-        (revision_told (R.content view.now) wants_changes revision ∷ []) }
-{
-    match revision_told(alloc, view, wants_changes, revision) {
-        Ok(reply) => say_new(reply, out),
-        Err(error) => Err(error),
     }
 }
 

@@ -1,8 +1,8 @@
 //! Replies to commands that read the tree and its revisions.
-ghost use Rattle.std.specs.Prelude.{◌≡◌, ℕ, Some, MatchOption};
+ghost use Rattle.std.specs.Prelude.{◌≡◌, ◌∷◌, [], ℕ, Some, MatchOption};
 ghost use Rattle.svnpath.specs.Texts.{joined};
-ghost use Rattle.repo_api.specs.Kinds.{kind_at};
-ghost use Rattle.wire_replies.specs.{declared.reply.Reply.Reply, Made.Makes};
+ghost use Rattle.repo_api.specs.Kinds.{kind_at, properties_at};
+ghost use Rattle.wire_replies.specs.{Made.Makes, Sinks.Says, declared.reply.Reply.Reply};
 ghost use Rattle.machine.specs.Commands.{at_revision, check_path_reply, rev_proplist_reply};
 
 use byte_string::ByteString;
@@ -10,7 +10,7 @@ use refusals::{Refusal, path_refusal};
 use repo_api::{Properties, Repository};
 use std::alloc::{AllocError, Global};
 use svnpath::{Path, PathFault};
-use wire_replies::Reply;
+use wire_replies::{Reply, ReplySink, say_new, say_properties, tell_refusal};
 
 /// Gives the revision that is named, or the youngest; `None` above the youngest.
 fn known_revision<R: Repository>(view: &R, revision: Option<u64>) -> Option<u64>
@@ -54,19 +54,34 @@ pub(crate) fn check_path<R: Repository>(
     }
 }
 
-/// Gives the properties of a revision, if it is there.
-pub(crate) fn rev_proplist<R: Repository>(
+/// Writes the properties of a revision, if it is there.
+pub(crate) fn say_rev_proplist<R: Repository, S: ReplySink>(
     alloc: Global,
     view: &R,
     revision: u64,
-) -> Result<Reply, AllocError>
-    ensures { Makes result (rev_proplist_reply (R.content view.now) revision) }
+    out: &mut S,
+) -> Result<(), AllocError>
+    ensures { Says result (S.writes out.old out.new)
+        (rev_proplist_reply (R.content view.now) revision ∷ []) }
 {
     match known_revision(view, Some(revision)) {
-        Some(n) => match view.revision_properties(n) {
-            Some(properties) => Ok(Reply::Properties(properties.clone()?)),
-            None => Ok(Reply::Properties(Properties::new(alloc))),
-        },
-        None => Ok(Reply::Failure(Refusal::NoSuchRevision)),
+        Some(n) => say_properties_at(alloc, view, n, out),
+        None => tell_refusal(Refusal::NoSuchRevision, out),
+    }
+}
+
+/// Writes the properties of a revision that is there, one after another.
+fn say_properties_at<R: Repository, S: ReplySink>(
+    alloc: Global,
+    view: &R,
+    revision: u64,
+    out: &mut S,
+) -> Result<(), AllocError>
+    ensures { Says result (S.writes out.old out.new)
+        (Reply.Properties (properties_at (R.content view.now) revision) ∷ []) }
+{
+    match view.revision_properties(revision) {
+        Some(properties) => say_properties(alloc, properties, out),
+        None => say_new(Reply::Properties(Properties::new(alloc)), out),
     }
 }

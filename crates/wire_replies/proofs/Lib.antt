@@ -5,6 +5,8 @@ pub mod EntryRows
 pub mod ChangeRows
 pub mod Made
 pub mod Parts
+pub mod Row
+pub mod Frames
 pub mod Telling
 pub mod Whole
 pub mod Rows

@@ -1,4 +1,5 @@
 pub mod Made
+pub mod Parts
 pub mod Pieces
 pub mod Replies
 pub mod Sinks

@@ -1,18 +1,23 @@
 //! What is known of files and directories, as items.
-ghost use Rattle.std.specs.Prelude.{◌≡◌, ◌++◌, [], IfOk, map};
-ghost use Rattle.items.specs.{Values.list, View.{row_of, value_of}};
+ghost use Rattle.std.specs.Prelude.{◌≡◌, ◌++◌, ◌∷◌, [], ℕ, List, IfOk, codes, map};
+ghost use Rattle.items.specs.{Print.printed, Values.{list, number}, View.{row_of, value_of}};
 ghost use Rattle.wire_replies.specs.Replies.{directory_info, entry_tree, entry_trees, file_info, node_trees, stat_trees};
+ghost use Rattle.wire_replies.specs.{Parts.{directory_end, directory_head, file_head}, Sinks.{Says, Writes}, declared.entries.NodeInfo.NodeInfo};
 
 use crate::build::{
     boolean_item, kind_name, list_item, number_item, optional_string_item, string_item,
     success_row, with_made, word_item,
 };
-use crate::properties::properties_item;
+use crate::properties::{properties_item, say_property_list};
+use crate::reply::Reply;
+use crate::saying::say_item;
+use crate::sink::ReplySink;
 use byte_string::ByteString;
 use items::Item;
 use repo_api::{NodeKind, Properties};
 use sequence::Sequence;
 use std::alloc::{AllocError, Global};
+use std::mem::drop;
 
 /// What is known of a file or a directory.
 #[derive(Drop)]
@@ -117,4 +122,85 @@ fn with_node(alloc: Global, items: Vec<Item>, node: &NodeInfo) -> Result<Vec<Ite
     let items = with_made(items, Ok(number_item(node.created)))?;
     let items = with_made(items, optional_string_item(alloc, &node.date))?;
     with_made(items, optional_string_item(alloc, &node.author))
+}
+
+/// Writes the reply that contains this file without its text, one property after another.
+pub fn say_file_info<S: ReplySink>(
+    alloc: Global,
+    info: &FileInfo,
+    out: &mut S,
+) -> Result<(), AllocError>
+    ensures { Says result (S.writes out.old out.new) (Reply.FileInfo info.now ∷ []) }
+{
+    say_file_head(alloc, &info.digest, info.revision, out)?;
+    say_property_list(alloc, &info.properties, out)?;
+    out.write_part(b") ) ")
+}
+
+/// Writes what comes before the properties in the reply that contains a file.
+fn say_file_head<S: ReplySink>(
+    alloc: Global,
+    digest: &Option<ByteString>,
+    revision: u64,
+    out: &mut S,
+) -> Result<(), AllocError>
+    ensures { Writes result (S.writes out.old out.new) (file_head digest.now revision) }
+{
+    out.write_part(b"( success ( ")?;
+    say_item(alloc, optional_string_item(alloc, digest), out)?;
+    say_item(alloc, Ok(number_item(revision)), out)
+}
+
+/// Writes what comes before the entries in the reply that contains a directory, one property after another.
+pub fn say_directory_head<S: ReplySink>(
+    alloc: Global,
+    revision: u64,
+    properties: &Properties,
+    out: &mut S,
+) -> Result<(), AllocError>
+    ensures { Writes result (S.writes out.old out.new) (directory_head revision properties.now) }
+{
+    say_revision_first(alloc, revision, out)?;
+    say_property_list(alloc, properties, out)?;
+    out.write_part(b"( ")
+}
+
+/// Writes how the reply that contains a directory begins, up to its revision.
+fn say_revision_first<S: ReplySink>(
+    alloc: Global,
+    revision: u64,
+    out: &mut S,
+) -> Result<(), AllocError>
+    ensures { Writes result (S.writes out.old out.new)
+        (codes "( success ( " ++ printed (number revision)) }
+{
+    out.write_part(b"( success ( ")?;
+    say_item(alloc, Ok(number_item(revision)), out)
+}
+
+/// Writes an entry of a directory, with its name, if it could be made. If not, nothing is written.
+pub fn say_entry<S: ReplySink>(
+    alloc: Global,
+    made: Result<(ByteString, NodeInfo), AllocError>,
+    out: &mut S,
+) -> Result<(), AllocError>
+    ensures { (entry : List ℕ × NodeInfo) → IfOk made (λ told. told ≡ entry)
+        → Writes result (S.writes out.old out.new) (printed (entry_tree entry.0 entry.1)) }
+{
+    match made {
+        Ok((name, node)) => {
+            let said = say_item(alloc, entry_item(alloc, name.as_slice(), &node), out);
+            drop(name);
+            drop(node);
+            said
+        }
+        Err(error) => Err(error),
+    }
+}
+
+/// Writes what comes after the entries in the reply that contains a directory.
+pub fn say_directory_end<S: ReplySink>(out: &mut S) -> Result<(), AllocError>
+    ensures { Writes result (S.writes out.old out.new) directory_end }
+{
+    out.write_part(b") ) ) ")
 }

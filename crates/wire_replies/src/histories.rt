@@ -1,18 +1,23 @@
 //! Logs, and where something was, as items.
-ghost use Rattle.std.specs.Prelude.{◌≡◌, [], IfOk};
-ghost use Rattle.items.specs.{Values.{both, list, more, string, word}, View.value_of, Word.IsWord};
+ghost use Rattle.std.specs.Prelude.{◌≡◌, ℕ, List, [], IfOk};
+ghost use Rattle.items.specs.{Print.printed, Values.{both, list, more, string, word}, View.value_of, Word.IsWord};
 ghost use Rattle.wire_replies.specs.Replies.{action_word, boolean_name, change_tree, change_trees, kind_word, location_item, log_entry, logged_change};
-ghost use Rattle.wire_replies.specs.Replies.{source_trees};
+ghost use Rattle.wire_replies.specs.{Parts.{log_end, log_head}, Replies.source_trees, Sinks.Writes};
+ghost use Rattle.wire_replies.specs.declared.histories.{LogFacts.LogFacts, LoggedChange.LoggedChange};
 
 use crate::build::{
     boolean_item, kind_name, list_item, number_item, optional_string_item, path_item, string_item,
     with_made, word_item,
 };
+use crate::reply::write_made;
+use crate::saying::say_item;
+use crate::sink::ReplySink;
 use byte_string::ByteString;
 use items::Item;
 use repo_api::{Action, Change, NodeKind, Source};
 use sequence::Sequence;
 use std::alloc::{AllocError, Global};
+use std::mem::drop;
 use svnpath::Path;
 
 /// A change that a log tells.
@@ -28,6 +33,15 @@ pub struct LoggedChange {
 #[derive(Drop)]
 pub struct LogEntry {
     pub changes: ChangeList,
+    pub revision: u64,
+    pub author: Option<ByteString>,
+    pub date: Option<ByteString>,
+    pub message: Option<ByteString>,
+}
+
+/// What a log says of a revision after its changes.
+#[derive(Drop)]
+pub struct LogFacts {
     pub revision: u64,
     pub author: Option<ByteString>,
     pub date: Option<ByteString>,
@@ -155,4 +169,71 @@ fn action_name(action: Action) -> &'static [u8]
         Action::Replace => b"R",
         Action::Modify => b"M",
     }
+}
+
+/// Writes what comes before the changes in the reply that contains a revision of a log.
+pub fn say_log_head<S: ReplySink>(out: &mut S) -> Result<(), AllocError>
+    ensures { Writes result (S.writes out.old out.new) log_head }
+{
+    out.write_part(b"( ( ")
+}
+
+/// Writes a change of a revision of a log, if it could be made. If not, nothing is written.
+pub fn say_change<S: ReplySink>(
+    alloc: Global,
+    made: Result<LoggedChange, AllocError>,
+    out: &mut S,
+) -> Result<(), AllocError>
+    ensures { (logged : LoggedChange) → IfOk made (λ told. told ≡ logged)
+        → Writes result (S.writes out.old out.new) (printed (change_tree logged)) }
+{
+    match made {
+        Ok(logged) => {
+            let said = say_item(alloc, change_item(alloc, &logged), out);
+            drop(logged);
+            said
+        }
+        Err(error) => Err(error),
+    }
+}
+
+/// Writes what comes after the changes, if it could be made. If not, nothing is written.
+pub fn say_log_end<S: ReplySink>(
+    alloc: Global,
+    made: Result<LogFacts, AllocError>,
+    out: &mut S,
+) -> Result<(), AllocError>
+    ensures { (facts : LogFacts) → IfOk made (λ told. told ≡ facts)
+        → Writes result (S.writes out.old out.new) (log_end facts) }
+{
+    match made {
+        Ok(facts) => {
+            let said = say_bytes(log_end(alloc, &facts), out);
+            drop(facts);
+            said
+        }
+        Err(error) => Err(error),
+    }
+}
+
+/// Writes bytes that are a part of a reply, if they could be made. If not, nothing is written.
+fn say_bytes<S: ReplySink>(made: Result<Vec<u8>, AllocError>, out: &mut S) -> Result<(), AllocError>
+    ensures { (part : List ℕ) → IfOk made (λ bytes. bytes.items ≡ part)
+        → Writes result (S.writes out.old out.new) part }
+{
+    let bytes = made?;
+    out.write_part(bytes.as_slice())
+}
+
+/// Makes the bytes that come after the changes.
+fn log_end(alloc: Global, facts: &LogFacts) -> Result<Vec<u8>, AllocError>
+    ensures { IfOk result (λ bytes. bytes.items ≡ log_end facts.now) }
+{
+    let mut bytes = Vec::from_slice(alloc, b") ")?;
+    write_made(Ok(number_item(facts.revision)), &mut bytes)?;
+    write_made(optional_string_item(alloc, &facts.author), &mut bytes)?;
+    write_made(optional_string_item(alloc, &facts.date), &mut bytes)?;
+    write_made(optional_string_item(alloc, &facts.message), &mut bytes)?;
+    bytes.extend_from_slice(b") ")?;
+    Ok(bytes)
 }

@@ -14,11 +14,17 @@ mod sink;
 mod texts;
 
 pub use contents::{PIECE, TextPiece, say_contents};
-pub use entries::{DirectoryInfo, EntryList, FileInfo, NodeInfo};
-pub use histories::{ChangeList, LogEntry, LoggedChange};
+pub use entries::{
+    DirectoryInfo, EntryList, FileInfo, NodeInfo, say_directory_end, say_directory_head, say_entry,
+    say_file_info,
+};
+pub use histories::{
+    ChangeList, LogEntry, LogFacts, LoggedChange, say_change, say_log_end, say_log_head,
+};
 pub use laws::pieces_make_the_text;
-pub use locks::{LockList, copied_locks};
+pub use locks::{LockList, copied_locks, say_locks};
+pub use properties::say_properties;
 pub use reply::{Offer, Reply};
-pub use saying::{say_both, say_made, say_new, tell_refusal};
+pub use saying::{say_both, say_item, say_made, say_new, tell_refusal};
 pub use sink::{MemorySink, ReplySink};
 pub use texts::{decimal_text, uuid_text};

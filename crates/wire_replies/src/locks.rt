@@ -1,9 +1,12 @@
 //! Locks, as items.
-ghost use Rattle.std.specs.{Prelude.{◌≡◌, IfOk, map}, Map.Iter.deref_pair};
-ghost use Rattle.items.specs.{Values.list, View.value_of};
-ghost use Rattle.wire_replies.specs.Replies.{lock_tree, lock_trees};
+ghost use Rattle.std.specs.{Prelude.{◌≡◌, ◌∷◌, [], IfOk, map}, Map.Iter.deref_pair};
+ghost use Rattle.items.specs.{Print.row_printed, Values.list, View.value_of};
+ghost use Rattle.wire_replies.specs.{Replies.{lock_tree, lock_trees}, Sinks.{Says, Writes}};
 
 use crate::build::{list_item, optional_string_item, path_item, string_item, with_made};
+use crate::reply::Reply;
+use crate::saying::say_item;
+use crate::sink::ReplySink;
 use byte_string::ByteString;
 use items::Item;
 use repo_api::Lock;
@@ -23,6 +26,34 @@ pub fn copied_locks(alloc: Global, found: &[(&Path, &Lock)]) -> Result<LockList,
         locks.push((path.clone()?, lock.clone()?))?;
     }
     Ok(locks)
+}
+
+/// Writes the reply that contains these locks, one lock after another.
+pub fn say_locks<S: ReplySink>(
+    alloc: Global,
+    found: &[(&Path, &Lock)],
+    out: &mut S,
+) -> Result<(), AllocError>
+    ensures { Says result (S.writes out.old out.new) (Reply.Locks (map deref_pair found.now) ∷ []) }
+{
+    out.write_part(b"( success ( ( ")?;
+    say_each_lock(alloc, found, out)?;
+    out.write_part(b") ) ) ")
+}
+
+/// Writes these locks.
+fn say_each_lock<S: ReplySink>(
+    alloc: Global,
+    found: &[(&Path, &Lock)],
+    out: &mut S,
+) -> Result<(), AllocError>
+    ensures { Writes result (S.writes out.old out.new)
+        (row_printed (lock_trees (map deref_pair found.now))) }
+{
+    for &(path, lock) in found {
+        say_item(alloc, lock_item(alloc, path, lock), out)?;
+    }
+    Ok(())
 }
 
 /// Makes `( lock ... )`.

@@ -176,7 +176,10 @@ impl Reply {
 }
 
 /// Writes an item at the end, if it was made. An `Err` changes nothing.
-fn write_made(made: Result<Item, AllocError>, out: &mut Vec<u8>) -> Result<(), AllocError>
+pub(crate) fn write_made(
+    made: Result<Item, AllocError>,
+    out: &mut Vec<u8>,
+) -> Result<(), AllocError>
     ensures ok { OnOk result (IsOkAnd made (λ item.
         out.new.items ≡ out.old.items ++ printed (value_of item))) }
     ensures err { OnErr result (out.new.items ≡ out.old.items) }

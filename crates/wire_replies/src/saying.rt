@@ -1,12 +1,14 @@
 //! Replies that are written as they are made. Where one of these fails, a part of what it says was
 //! written.
 ghost use Rattle.std.specs.Prelude.{◌≡◌, ◌∷◌, [], IfOk};
-ghost use Rattle.wire_replies.specs.Sinks.{Says};
+ghost use Rattle.items.specs.{Print.printed, Values.ItemValue, View.value_of};
+ghost use Rattle.wire_replies.specs.Sinks.{Says, Writes};
 
-use crate::reply::Reply;
+use crate::reply::{Reply, write_made};
 use crate::sink::ReplySink;
+use items::Item;
 use refusals::Refusal;
-use std::alloc::AllocError;
+use std::alloc::{AllocError, Global};
 use std::mem::drop;
 
 /// Writes two replies.
@@ -45,4 +47,18 @@ pub fn tell_refusal<S: ReplySink>(refusal: Refusal, out: &mut S) -> Result<(), A
     ensures { Says result (S.writes out.old out.new) (Reply.Failure refusal ∷ []) }
 {
     say_new(Reply::Failure(refusal), out)
+}
+
+/// Writes an item that is a part of a reply, if it could be made. If not, nothing is written.
+pub fn say_item<S: ReplySink>(
+    alloc: Global,
+    made: Result<Item, AllocError>,
+    out: &mut S,
+) -> Result<(), AllocError>
+    ensures { (item : ItemValue) → IfOk made (λ part. value_of part ≡ item)
+        → Writes result (S.writes out.old out.new) (printed item) }
+{
+    let mut bytes = Vec::new(alloc);
+    write_made(made, &mut bytes)?;
+    out.write_part(bytes.as_slice())
 }

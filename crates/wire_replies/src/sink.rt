@@ -1,6 +1,6 @@
 //! Where replies go.
 ghost use Rattle.std.specs.Prelude.{◌≡◌, ◌∷◌, ◌++◌, [], List, ℕ};
-ghost use Rattle.wire_replies.specs.Sinks.{Says};
+ghost use Rattle.wire_replies.specs.Sinks.{Says, Writes};
 
 use crate::reply::Reply;
 use std::alloc::{AllocError, Global};
@@ -15,6 +15,11 @@ pub trait ReplySink {
     /// fails for another reason than want of memory keeps its fault itself.
     fn say(&mut self, reply: &Reply) -> Result<(), AllocError>
         ensures { Says result (writes self.old self.new) (reply.now ∷ []) };
+
+    /// Writes bytes that are a part of a reply. Where memory runs out or the sink fails, a part of them was written, from
+    /// the front.
+    fn write_part(&mut self, part: &[u8]) -> Result<(), AllocError>
+        ensures { Writes result (writes self.old self.new) part.now };
 
     ghost nothing: { (s : Self) → writes s s [] };
 
@@ -68,6 +73,11 @@ impl ReplySink for MemorySink {
 
     fn say(&mut self, reply: &Reply) -> Result<(), AllocError> {
         reply.write(self.alloc, &mut self.bytes)?;
+        Ok(())
+    }
+
+    fn write_part(&mut self, part: &[u8]) -> Result<(), AllocError> {
+        self.bytes.extend_from_slice(part)?;
         Ok(())
     }
 }

@@ -7,16 +7,16 @@ pub returns-in-CheckPath : goal.returns-in-CheckPath
 returns-in-CheckPath g c = rw c.in-CheckPath.is (c.say_made.ensures _ c.check_path.ensures)
 
 pub returns-in-RevProplist : goal.returns-in-RevProplist
-returns-in-RevProplist g c = rw c.in-RevProplist.is (c.say_made-in-RevProplist.ensures _ c.rev_proplist.ensures)
+returns-in-RevProplist g c = rw c.in-RevProplist.is c.say_rev_proplist.ensures
 
 pub returns-in-GetLock : goal.returns-in-GetLock
 returns-in-GetLock g c = rw c.in-GetLock.is (c.say_made-in-GetLock.ensures _ c.get_lock.ensures)
 
 pub returns-in-GetLocks : goal.returns-in-GetLocks
-returns-in-GetLocks g c = rw c.in-GetLocks.is (c.say_made-in-GetLocks.ensures _ c.get_locks.ensures)
+returns-in-GetLocks g c = rw c.in-GetLocks.is c.say_locks_under.ensures
 
 pub returns-in-GetDir : goal.returns-in-GetDir
-returns-in-GetDir g c = rw c.in-GetDir.is (c.say_made-in-GetDir.ensures _ c.get_dir.ensures)
+returns-in-GetDir g c = rw c.in-GetDir.is c.say_dir.ensures
 
 pub returns-in-Stat : goal.returns-in-Stat
 returns-in-Stat g c = rw c.in-Stat.is (c.say_made-in-Stat.ensures _ c.stat.ensures)
