@@ -21,7 +21,8 @@ use Rattle.drive_wire.specs.{Reporting.{Drawn, client_answer}, Reporting.Drawn.{
 use Rattle.edit_rules.specs.Editor.{finished}
 use Rattle.wire_replies.specs.{declared.reply.Reply.Reply, declared.reply.Reply.TheVariants.{Success, NoLogin, CommitInfo, Failure}}
 use Rattle.machine.specs.Answers.{Answer, Behind, behind, change_answer, ChangeStep, content_after, is_halt, IsOfChange, says, Step, Verdict}
-use Rattle.machine.specs.{Answers.Verdict.{NotWritten, Unknown, Written}, Commands.{asked_by, commit_begins, lock_answer, lock_ask, lock_tokens, LockStep}}
+use Rattle.machine.specs.{Answers.Verdict.{NotWritten, Unknown, Written}, Commands.{asked_by, commit_begins, is_long_comment, lock_answer, lock_ask, lock_tokens}}
+use Rattle.machine.specs.Commands.{LockingStep, LockStep}
 use Rattle.machine.specs.{Commands.{login_request, OwnStep, PropertyStep, reparented, unlock_ask, UnlockStep}, Hearing.Input, Hearing.Input.{Broken, Whole}}
 use Rattle.machine.specs.Logins.{ChallengeStep, ChoiceStep, chosen, greeting_answer, LoggedIn, LoginStep, offer, speaks, url_answer, wants_user, with_user}
 use Rattle.machine.specs.Machine.{CloseStep, CommandStep, commit_ask, CommitStep, CommittedStep, EditingStep, ending_of, InputStep, IsReleaseOf, JudgedEdit}
@@ -255,13 +256,18 @@ locks may env c client command path date named dated accepted NotWritten of =
 locks may env c client command path date named dated accepted (Unknown x) of =
     halts_at (IsAskedBy env client (LockPath command)) may env c client (Locks (lock_ask env client command path date)) x [] (command, refl, path, named, date, dated, refl) accepted of
 
-does_lock : (may halted : Bool) (env : Env) (c : RepoState) (client : Client) (command : LockCommand) (path : Result PathValue PathFault) (a : Answer)
-    → joined client.path command.path ≡ path → LockStep env client command path halted c a → Does (IsAskedBy env client (LockPath command)) may halted env c a
-does_lock may halted env c client command (Ok path) a named (date, dated, step) =
+does_locking : (may halted : Bool) (env : Env) (c : RepoState) (client : Client) (command : LockCommand) (path : Result PathValue PathFault) (a : Answer)
+    → joined client.path command.path ≡ path → LockingStep env client command path halted c a → Does (IsAskedBy env client (LockPath command)) may halted env c a
+does_locking may halted env c client command (Ok path) a named (date, dated, step) =
     let ask = lock_ask env client command path date in
     does_change (IsAskedBy env client (LockPath command)) may halted env c client (lock_refusal c ask) (lock_refusal c ask) (Locks ask) (lock_answer env client ask) a refl
     (locks may env c client command path date named dated) step
-does_lock may halted env c client command (Err fault) a named is = quiet a _ is (refl, refl, refl)
+does_locking may halted env c client command (Err fault) a named is = quiet a _ is (refl, refl, refl)
+
+does_lock : (long may halted : Bool) (env : Env) (c : RepoState) (client : Client) (command : LockCommand) (path : Result PathValue PathFault) (a : Answer)
+    → joined client.path command.path ≡ path → LockStep long env client command path halted c a → Does (IsAskedBy env client (LockPath command)) may halted env c a
+does_lock false may halted env c client command path a named step = does_locking may halted env c client command path a named step
+does_lock true may halted env c client command path a named is = quiet a _ is (refl, refl, refl)
 
 unlocks : (may : Bool) (env : Env) (c : RepoState) (client : Client) (command : UnlockCommand) (path : PathValue) → joined client.path command.path ≡ Ok path
     → (let ask = unlock_ask client command path in
@@ -323,7 +329,8 @@ own halted s env c client (Read command) a is = quiet a _ is (refl, refl, refl)
 own halted s env c client (Drive command) a is = quiet a _ is (refl, refl, refl)
 own halted s env c client (Commit command) a is = quiet a _ is (quiet_begins s env client (asked_by command (lock_tokens client.path command.tokens)))
 own halted s env c client AbortEdit a is = quiet a _ is (refl, refl, refl)
-own halted s env c client (LockPath command) a step = does_lock s.revprops halted env c client command (joined client.path command.path) a refl step
+own halted s env c client (LockPath command) a step =
+    does_lock (is_long_comment command.comment) s.revprops halted env c client command (joined client.path command.path) a refl step
 own halted s env c client (UnlockPath command) a step = does_unlock s.revprops halted env c client command (joined client.path command.path) a refl step
 own halted s env c client (ChangeRevProp ask) a step = does_property s.revprops halted env c client ask a step
 own halted s env c client (Reparent url) a is = quiet a _ is (quiet_reparented env client (path_of_text url s.name))

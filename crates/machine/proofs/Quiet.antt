@@ -14,7 +14,7 @@ use Rattle.wire_edits.specs.Editing.{ends_edit}
 use Rattle.machine.specs.{Hearing.Input, Hearing.Input.{Whole, Broken}, Answers.Verdict.{Written, NotWritten, Unknown}}
 use Rattle.machine.specs.{declared.login.OpenChallenge.OpenChallenge, Settings.Settings, Stages.Stage}
 use Rattle.machine.specs.{Answers.{Verdict, Answer, Step, says, change_answer, ChangeStep, behind, Behind}, Commands.{OwnStep, asked_by, lock_tokens}}
-use Rattle.machine.specs.Commands.{commit_begins, env_without_token, lock_ask, unlock_ask, lock_answer, LockStep, UnlockStep, PropertyStep, reparented}
+use Rattle.machine.specs.Commands.{commit_begins, env_without_token, is_long_comment, lock_ask, unlock_ask, lock_answer, LockingStep, LockStep, UnlockStep, PropertyStep, reparented}
 use Rattle.machine.specs.{Commands.login_request, Reports.{drawn_answer, driven_answer}, Logins.{offer, chosen, wants_user, speaks, url_answer}}
 use Rattle.machine.specs.Logins.{greeting_answer, LoggedIn, ChoiceStep, LoginStep, with_user, OutcomeStep, ChallengeStep}
 use Rattle.machine.specs.{Machine.{InputStep, KnownCommand, MainStep, skipping_answer}, declared.commit_parameters.CommitParameters.CommitParameters}
@@ -124,12 +124,17 @@ quiet_locked s env client ask Written = quiet_change s (env_without_token env) c
 quiet_locked s env client ask NotWritten = quiet_change s env client (Locks ask) [] NotWritten refl
 quiet_locked s env client ask (Unknown x) = quiet_change s env client (Locks ask) [] (Unknown x) refl
 
-quiet_lock : (s : Settings) (halted : Bool) (env : Env) (c : RepoState) (client : Client) (command : LockCommand) (path : Result PathValue PathFault) (a : Answer)
-    → LockStep env client command path halted c a → IsQuiet s a
-quiet_lock s halted env c client command (Ok path) a (date, is_date, step) =
+quiet_locking : (s : Settings) (halted : Bool) (env : Env) (c : RepoState) (client : Client) (command : LockCommand) (path : Result PathValue PathFault) (a : Answer)
+    → LockingStep env client command path halted c a → IsQuiet s a
+quiet_locking s halted env c client command (Ok path) a (date, is_date, step) =
     let ask = lock_ask env client command path date in
     quiet_step s halted env client (lock_refusal c ask) (Locks ask) (lock_answer env client ask) a (quiet_locked s env client ask) step
-quiet_lock s halted env c client command (Err fault) a is = quiet_is s a _ is (plain s env client _)
+quiet_locking s halted env c client command (Err fault) a is = quiet_is s a _ is (plain s env client _)
+
+quiet_lock : (s : Settings) (long halted : Bool) (env : Env) (c : RepoState) (client : Client) (command : LockCommand) (path : Result PathValue PathFault) (a : Answer)
+    → LockStep long env client command path halted c a → IsQuiet s a
+quiet_lock s false halted env c client command path a step = quiet_locking s halted env c client command path a step
+quiet_lock s true halted env c client command path a is = quiet_is s a _ is (plain s env client _)
 
 quiet_unlock : (s : Settings) (halted : Bool) (env : Env) (c : RepoState) (client : Client) (command : UnlockCommand) (path : Result PathValue PathFault) (a : Answer)
     → UnlockStep env client command path halted c a → IsQuiet s a
@@ -163,7 +168,8 @@ quiet_own s halted env c client (Drive command) a is = quiet_is s a _ is (quiet_
 quiet_own s halted env c client (Commit command) a is =
     quiet_is s a _ is (quiet_begins s env client (asked_by command (lock_tokens client.path command.tokens)))
 quiet_own s halted env c client AbortEdit a is = quiet_is s a _ is (plain s env client _)
-quiet_own s halted env c client (Lock command) a step = quiet_lock s halted env c client command (joined client.path command.path) a step
+quiet_own s halted env c client (Lock command) a step =
+    quiet_lock s (is_long_comment command.comment) halted env c client command (joined client.path command.path) a step
 quiet_own s halted env c client (Unlock command) a step = quiet_unlock s halted env c client command (joined client.path command.path) a step
 quiet_own s halted env c client (ChangeRevProp ask) a step = quiet_property s s.revprops halted env c client ask a step
 quiet_own s halted env c client (Reparent url) a is =

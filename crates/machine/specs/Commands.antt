@@ -1,5 +1,5 @@
 -- What commands are answered, once nothing has to come before.
-use Rattle.std.specs.Prelude.{◌≡◌, ℕ, ◌+◌, ◌%◌, ◌^◌, Bool, true, false, nat_lt, List, [], ◌∷◌, ◌++◌, Option, Some, None, option_map, Result, Ok, Err}
+use Rattle.std.specs.Prelude.{◌≡◌, ℕ, ◌+◌, ◌%◌, ◌^◌, Bool, true, false, nat_lt, List, [], ◌∷◌, ◌++◌, length, Option, Some, None, option_map, Result, Ok, Err}
 use Rattle.std.specs.{Prelude.{if◌then◌else◌, codes}, FinMap.get, Option.option_to_list, List.list_all}
 use Rattle.svnpath.specs.{Paths.PathValue, Texts.joined, Urls.path_of_text, declared.fault.PathFault.PathFault}
 use Rattle.refusals.specs.{declared.Refusal.Refusal, Refusing.path_refusal}
@@ -24,7 +24,7 @@ use Rattle.machine.specs.{Settings.Settings, Answers.{Verdict, Answer, Step, say
 use Rattle.machine.specs.{Answers.Verdict.{Written, NotWritten, Unknown}, Histories.{all_joined, log_replies, locations_replies}}
 use Rattle.machine.specs.{Readings.{place_read, file_replies, directory_reply, stat_reply, dated_reply, property_reply}, declared.env.Env.Env}
 use Rattle.machine.specs.{declared.commit_parameters.CommitParameters.CommitParameters, declared.phase.Phase.TheVariants.{Serving, Editing, Reporting}}
-use Rattle.machine.specs.declared.phase.Client.{Client}
+use Rattle.machine.specs.{declared.comments.TheConstants.COMMENT_LIMIT, declared.phase.Client.Client}
 
 -- paths with the tokens of the locks that stand there
 abbrev pub LockTokens : Type 0
@@ -169,12 +169,25 @@ lock_answer env client ask Written =
 lock_answer env client ask NotWritten = change_answer env client (Locks ask) [] NotWritten
 lock_answer env client ask (Unknown x) = change_answer env client (Locks ask) [] (Unknown x)
 
-abbrev pub LockStep : Env → Client → LockCommand → Result PathValue PathFault → Step
-LockStep env client command (Ok path) halted c a = (date : List ℕ) × IsDateText env.moment date
+-- a path is locked
+abbrev pub LockingStep : Env → Client → LockCommand → Result PathValue PathFault → Step
+LockingStep env client command (Ok path) halted c a =
+    (date : List ℕ) × IsDateText env.moment date
     × (let ask = lock_ask env client command path date in
     ChangeStep halted env client (lock_refusal c ask) (Locks ask) (lock_answer env client ask) a)
-LockStep env client command (Err fault) halted c a =
+LockingStep env client command (Err fault) halted c a =
     a ≡ serves env client (replies.Failure (path_refusal fault))
+
+-- whether the comment of a lock is over the limit
+abbrev pub is_long_comment : Option (List ℕ) → Bool
+is_long_comment None = false
+is_long_comment (Some comment) = nat_lt COMMENT_LIMIT (length comment)
+
+-- a lock with a longer comment is refused, whatever else would be said of it
+abbrev pub LockStep : Bool → Env → Client → LockCommand → Result PathValue PathFault → Step
+LockStep false env client command path = LockingStep env client command path
+LockStep true env client command path =
+    Always (serves env client (replies.Failure refusals.NotSupported))
 
 abbrev pub UnlockStep : Env → Client → UnlockCommand → Result PathValue PathFault → Step
 UnlockStep env client command (Ok path) halted c a =
@@ -220,7 +233,8 @@ OwnStep s env client (Commit command) =
     Always (commit_begins s env client
     (asked_by command (lock_tokens client.path command.tokens)))
 OwnStep s env client AbortEdit = Always (says env (Serving client) [])
-OwnStep s env client (Lock command) = LockStep env client command (joined client.path command.path)
+OwnStep s env client (Lock command) =
+    LockStep (is_long_comment command.comment) env client command (joined client.path command.path)
 OwnStep s env client (Unlock command) =
     UnlockStep env client command (joined client.path command.path)
 OwnStep s env client (ChangeRevProp ask) = PropertyStep s.revprops env client ask

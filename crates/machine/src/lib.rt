@@ -1,6 +1,7 @@
 //! The machine of one session: where it stands, and what each input does there.
 #![tactic(auto)]
 
+mod comments;
 mod commit_parameters;
 mod ending;
 mod env;
@@ -10,6 +11,7 @@ mod options;
 mod phase;
 mod turn;
 
+pub use comments::{COMMENT_LIMIT, is_long_comment};
 pub use commit_parameters::CommitParameters;
 pub use ending::{Ending, ending_of};
 pub use env::Env;

@@ -8,7 +8,7 @@ use Rattle.commands.specs.{declared.command.LockCommand.LockCommand, declared.co
 use Rattle.repo_api.specs.{States.RepoState, declared.lock_ask.LockAsk.LockAsk, declared.lock_ask.UnlockAsk.UnlockAsk}
 use Rattle.wire_replies.specs.declared.reply.Reply.TheVariants as replies
 use Rattle.access.specs.Points.{content_of, Point}
-use Rattle.machine.specs.{Answers.{Answer, serves}, Commands.{lock_ask, LockStep, unlock_ask, UnlockStep}, declared.env.Env.Env, declared.phase.Client.Client}
+use Rattle.machine.specs.{Answers.{Answer, serves}, Commands.{lock_ask, LockingStep, unlock_ask, UnlockStep}, declared.env.Env.Env, declared.phase.Client.Client}
 use Rattle.session_changes.specs.Asked.{LockAsked, UnlockAsked}
 
 -- ---- a lock and an unlock
@@ -16,10 +16,10 @@ use Rattle.session_changes.specs.Asked.{LockAsked, UnlockAsked}
 module _ (env : Env) (client : Client) where
   pub lock_is : (command : LockCommand) (ask : LockAsk) (found : Result PathValue PathFault) (path : PathValue) → found ≡ Ok path
       → IsDateText env.moment ask.date → ask ≡ lock_ask env client command path ask.date → (at : Point) (a : Answer)
-      → LockAsked env client ask at.halted (content_of at) a → LockStep env client command found at.halted (content_of at) a
+      → LockAsked env client ask at.halted (content_of at) a → LockingStep env client command found at.halted (content_of at) a
   lock_is command ask found path is_path dated same at a asked =
       let now = subst (λ (x : LockAsk). LockAsked env client x at.halted (content_of at) a) same asked in
-      subst (λ (f : Result PathValue PathFault). LockStep env client command f at.halted (content_of at) a) (sym is_path) (ask.date, dated, now)
+      subst (λ (f : Result PathValue PathFault). LockingStep env client command f at.halted (content_of at) a) (sym is_path) (ask.date, dated, now)
 
   pub unlock_is : (command : UnlockCommand) (ask : UnlockAsk) (found : Result PathValue PathFault) (path : PathValue) → found ≡ Ok path
       → ask ≡ unlock_ask client command path → (at : Point) (a : Answer)
@@ -30,10 +30,10 @@ module _ (env : Env) (client : Client) where
 
   -- a path that is none
   pub lock_refused : (command : LockCommand) (found : Result PathValue PathFault) (fault : PathFault) → found ≡ Err fault → (halts : Bool) (c : RepoState)
-      → LockStep env client command found halts c (serves env client (replies.Failure (path_refusal fault)))
+      → LockingStep env client command found halts c (serves env client (replies.Failure (path_refusal fault)))
   lock_refused command found fault is halts c =
       let said = serves env client (replies.Failure (path_refusal fault)) in
-      subst (λ (f : Result PathValue PathFault). LockStep env client command f halts c said) (sym is) refl
+      subst (λ (f : Result PathValue PathFault). LockingStep env client command f halts c said) (sym is) refl
 
   pub unlock_refused : (command : UnlockCommand) (found : Result PathValue PathFault) (fault : PathFault) → found ≡ Err fault → (halts : Bool) (c : RepoState)
       → UnlockStep env client command found halts c (serves env client (replies.Failure (path_refusal fault)))

@@ -1,14 +1,14 @@
 //! A path of the repository is locked.
 ghost use Rattle.svnpath.specs.Texts.{joined};
-ghost use Rattle.machine.specs.{Answers.{Behind, behind, serves}, Commands.{env_without_token, LockStep}, Steps.{Answered, Stepped}};
+ghost use Rattle.machine.specs.{Answers.{Behind, behind, serves}, Commands.{env_without_token, is_long_comment, LockingStep, LockStep}, Steps.{Answered, Stepped}};
 ghost use Rattle.session_replies.specs.Telling.{told_before};
 ghost use Rattle.session_changes.specs.Asked.{LockAsked};
 
 use crate::asking::{MadeLock, lock_asked_for, made_lock};
 use access::RepoAccess;
 use commands::LockCommand;
-use machine::{Client, Turn};
-use refusals::path_refusal;
+use machine::{Client, Turn, is_long_comment};
+use refusals::{Refusal, path_refusal};
 use repo_api::{LockAsk, Repository};
 use session_replies::{Preface, SessionPhase, refuse, tell, tell_fault};
 use std::alloc::AllocError;
@@ -60,7 +60,7 @@ fn ask_lock<R: Repository, A: RepoAccess<View = R>, S: ReplySink>(
 }
 
 /// Locks a path, after what the client is sent before.
-pub fn lock<R: Repository, A: RepoAccess<View = R>, S: ReplySink>(
+fn lock_path<R: Repository, A: RepoAccess<View = R>, S: ReplySink>(
     client: Client,
     command: &LockCommand,
     preface: Preface,
@@ -69,7 +69,7 @@ pub fn lock<R: Repository, A: RepoAccess<View = R>, S: ReplySink>(
 ) -> Result<SessionPhase<R>, AllocError>
     ensures { Stepped result S.writes turn.old turn.new A.rules A.point access.old access.new
         (Behind (told_before preface)
-        (LockStep turn.old.env client command.now (joined client.path command.now.path))) }
+        (LockingStep turn.old.env client command.now (joined client.path command.now.path))) }
 {
     match lock_asked_for(turn.alloc, turn.env, &client, command) {
         Ok(ask) => ask_lock(client, ask, preface, access, turn),
@@ -80,5 +80,24 @@ pub fn lock<R: Repository, A: RepoAccess<View = R>, S: ReplySink>(
             }
             _ => refuse(client, preface, path_refusal(fault), turn),
         },
+    }
+}
+
+/// Locks a path, after what the client is sent before. A comment over the limit is refused first.
+pub fn lock<R: Repository, A: RepoAccess<View = R>, S: ReplySink>(
+    client: Client,
+    command: &LockCommand,
+    preface: Preface,
+    access: &mut A,
+    turn: &mut Turn<S>,
+) -> Result<SessionPhase<R>, AllocError>
+    ensures { Stepped result S.writes turn.old turn.new A.rules A.point access.old access.new
+        (Behind (told_before preface) (LockStep (is_long_comment command.now.comment) turn.old.env
+        client command.now (joined client.path command.now.path))) }
+{
+    if is_long_comment(&command.comment) {
+        refuse(client, preface, Refusal::NotSupported, turn)
+    } else {
+        lock_path(client, command, preface, access, turn)
     }
 }

@@ -1,11 +1,11 @@
 use Rattle.svnpath.specs.Texts.{joined}
 use Rattle.access.specs.Points.{content_of}
-use Rattle.machine.specs.Commands.{LockStep}
+use Rattle.machine.specs.Commands.{LockingStep}
 use Rattle.session_replies.specs.Telling.{told_before}
 use Rattle.session_replies.proofs.{Steps.{stepped, leads_behind, only_says}, Changes.stepped_is}
 use Rattle.session_changes.specs.Asked.{LockAsked}
 use Rattle.session_changes.proofs.Changes.{lock_is, lock_refused, fault_is}
-use Rattle.session_changes.proofs.locking.lock.Goals as goal
+use Rattle.session_changes.proofs.locking.lock_path.Goals as goal
 
 pub returns-in-Ok : goal.returns-in-Ok
 returns-in-Ok g c =
@@ -15,7 +15,7 @@ returns-in-Ok g c =
     let asked = c.in-Ok.ensures in
     stepped_is g.A.RepoAccess.rules (told_before c.args.preface)
     (LockAsked env client c.in-Ok.ask)
-    (LockStep env client command (joined client.path command.path))
+    (LockingStep env client command (joined client.path command.path))
     _ _ (lock_is env client command c.in-Ok.ask (joined client.path command.path) asked.0 asked.1 asked.2.0 asked.2.1)
     c.ask_lock.result _ _ c.ask_lock.ensures
 
@@ -28,6 +28,6 @@ returns-in_default g c =
     let found = joined client.path command.path in
     let is = fault_is found c.in-Err.fault c.in-Err.ensures c.in_default.not-NoMemory in
     let refused = rw c.path_refusal.ensures at c.refuse.ensures in
-    let own = only_says {step = LockStep env client command found}
+    let own = only_says {step = LockingStep env client command found}
     (g.met.A.RepoAccess.stays now) (lock_refused env client command found c.in-Err.fault is now.halted (content_of now)) in
     stepped (leads_behind (told_before c.args.preface) own) _ c.refuse.result _ refused
