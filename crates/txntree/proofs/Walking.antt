@@ -5,6 +5,7 @@ use Rattle.txntree.proofs.Names.{at_is_name}
 use Rattle.svnpath.specs.{PathLaws.same_component_is, Paths.{Component, PathValue, same_component}}
 use Rattle.repo_api.specs.{Edits.{begun, new_entry, revised, touched, with_open_mark, with_value, without_value}, Trees.Tree, declared.entry.Content.Content}
 use Rattle.repo_api.specs.declared.entry.Entry.{Entry}
+use Rattle.repo_api.specs.declared.entry.Mark.TheVariants as marks
 use Rattle.txntree.specs.{Laws.leaf, Spots.{changed_at, change_spot, shared_spot, over, step, find, entry, flat, open_entry}}
 use Rattle.txntree.specs.{Spots.Spot.{Nothing, Shared, Opened}, Walks.{down, beneath, at_path, made_there, with_content, Lacks}, declared.open.Local.Local}
 use Rattle.txntree.specs.{declared.open.OpenNode.OpenNode, declared.open.Change.Change, declared.open.Change.TheVariants.{Is, Gone}}
@@ -38,6 +39,12 @@ pub alike : (look : Look) (old new : OpenNode)
 alike look old new same base others [] = ap Some same
 alike look old new same base others (n ∷ q) =
     ap (λ b. entry look (find look q (over (changed_at new.changed n) (shared_spot (kid_at look b n))))) base ∙ others n q
+
+-- the entry of an open node is what it has of its own
+pub same_entry : (old new : OpenNode) → arc_value new.content ≡ arc_value old.content → arc_value new.properties ≡ arc_value old.properties
+    → new.own ≡ old.own → open_entry new ≡ open_entry old
+same_entry old new content properties own =
+    λ i. record { content = content i; properties = properties i; own = own i; last = marks.Open }
 
 -- a shared node with nothing changed beneath it
 pub opened_over : (look : Look) (id : NodeId) (node : NodeRev) (new : OpenNode)

@@ -117,7 +117,7 @@ impl OpenNode {
         ensures own { is_open_mark self.new.own ≡ false → is_open_mark self.old.own ≡ false }
     {
         let Some((name, rest)) = path.split_first() else {
-            self.make(alloc, local)?;
+            self.make(local)?;
             return Ok(());
         };
         if let Some(change) = self.changed.get_mut(name) {
@@ -133,7 +133,7 @@ impl OpenNode {
     }
 
     /// Makes a change at this node.
-    fn make(&mut self, alloc: Global, local: Local) -> Result<(), AllocError>
+    fn make(&mut self, local: Local) -> Result<(), AllocError>
         ensures tree { (look : Look) → Applies result (λ n. flat look (Opened n)) self.old self.new
             (made_there look local) }
         ensures based { (look : Look) → IsBasedLocal look local
@@ -148,11 +148,11 @@ impl OpenNode {
                 self.own = Mark::Open;
             }
             Local::SetProperty(name, value) => {
-                self.properties = with_one(alloc, &self.properties, name, value)?;
+                set_one(&mut self.properties, name, value)?;
                 self.own = Mark::Open;
             }
             Local::RemoveProperty(name) => {
-                self.properties = without_one(alloc, &self.properties, &name)?;
+                remove_one(&mut self.properties, &name)?;
                 self.own = Mark::Open;
             }
         }
@@ -185,31 +185,29 @@ impl Change {
     }
 }
 
-/// Gives the properties with one set.
-fn with_one(
-    alloc: Global,
-    properties: &Properties,
+/// Sets a property. Properties that a shared node has too are copied first, so the node keeps its own.
+fn set_one(
+    properties: &mut Arc<Properties>,
     name: ByteString,
     value: ByteString,
-) -> Result<Arc<Properties>, AllocError>
-    ensures { IfOk result (λ p. arc_value p ≡ with_property properties.now name value) }
+) -> Result<(), AllocError>
+    ensures ok { OnOk result (arc_value properties.new
+        ≡ with_property (arc_value properties.old) name value) }
+    ensures err { OnErr result (arc_value properties.new ≡ arc_value properties.old) }
 {
-    let mut properties = properties.clone()?;
-    properties.set(name, value)?;
-    Ok(Arc::new(alloc, properties)?)
+    let own = Arc::make_mut(properties)?;
+    own.set(name, value)
 }
 
-/// Gives the properties with one taken out.
-fn without_one(
-    alloc: Global,
-    properties: &Properties,
-    name: &ByteString,
-) -> Result<Arc<Properties>, AllocError>
-    ensures { IfOk result (λ p. arc_value p ≡ without_property properties.now name.now) }
+/// Takes a property out. Properties that a shared node has too are copied first, so the node keeps its own.
+fn remove_one(properties: &mut Arc<Properties>, name: &ByteString) -> Result<(), AllocError>
+    ensures ok { OnOk result (arc_value properties.new
+        ≡ without_property (arc_value properties.old) name.now) }
+    ensures err { OnErr result (arc_value properties.new ≡ arc_value properties.old) }
 {
-    let mut properties = properties.clone()?;
-    properties.remove(name);
-    Ok(Arc::new(alloc, properties)?)
+    let own = Arc::make_mut(properties)?;
+    own.remove(name);
+    Ok(())
 }
 
 /// Puts the change of this name, over an earlier one.
