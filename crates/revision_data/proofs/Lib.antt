@@ -2,3 +2,4 @@ pub mod Seen
 pub mod Retained
 pub mod Written
 pub mod Noted
+pub mod Beneath

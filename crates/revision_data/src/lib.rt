@@ -12,6 +12,6 @@ mod txn_changes;
 
 pub use change_list::ChangeList;
 pub use judging::{current_refusal, property_refusal};
-pub use path_map::put;
+pub use path_map::{paths_beneath, put, take_out, take_out_each};
 pub use properties::{changed_property, opening_properties, revision_properties};
 pub use txn_changes::{Note, TxnChanges};

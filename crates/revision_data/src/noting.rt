@@ -5,9 +5,9 @@ ghost use Rattle.repo_api.specs.Changes.{noted, or_modified};
 ghost use Rattle.revision_data.specs.Found.{found};
 
 use crate::changes::unflagged;
-use crate::path_map::{put, take_out};
+use crate::path_map::{paths_beneath, put, take_out, take_out_each};
 use repo_api::{Action, Change};
-use std::alloc::AllocError;
+use std::alloc::{AllocError, Global};
 use std::collections::BTreeMap;
 use svnpath::Path;
 
@@ -52,11 +52,14 @@ fn replace(changes: &mut BTreeMap<Path, Change>, path: &Path, change: Change)
     }
 }
 
-/// Takes out the changes beneath the path. It takes no memory.
-pub(crate) fn forget_beneath(changes: &mut BTreeMap<Path, Change>, path: &Path)
+/// Takes out the changes beneath the path. Where memory runs out for a list of them, it goes through all changes.
+pub(crate) fn forget_beneath(alloc: Global, changes: &mut BTreeMap<Path, Change>, path: &Path)
     ensures { (q : PathValue) → found changes.new.entries q ≡ (if same_path path.now q
         then found changes.old.entries q
         else (if is_at_or_under q path.now then None else found changes.old.entries q)) }
 {
-    changes.retain(|key, _| path == key || !key.is_at_or_under(path));
+    match paths_beneath(alloc, changes, path) {
+        Ok(beneath) => take_out_each(changes, &beneath),
+        Err(_) => changes.retain(|key, _| path == key || !key.is_at_or_under(path)),
+    }
 }

@@ -24,12 +24,16 @@ pub struct Note {
 /// The changes of a transaction, in the order of their paths. An edit is prepared here, then made in the tree, and
 /// then settled here, or taken back where the tree lacked memory.
 pub struct TxnChanges {
+    alloc: Global,
     changes: BTreeMap<Path, Change>,
 }
 
 impl Drop for TxnChanges {
     fn drop(self) {
-        let TxnChanges { changes: _ } = self;
+        let TxnChanges {
+            alloc: _,
+            changes: _,
+        } = self;
     }
 }
 
@@ -50,6 +54,7 @@ impl TxnChanges {
         ensures { result ≡ empty }
     {
         TxnChanges {
+            alloc,
             changes: BTreeMap::new(alloc),
         }
     }
@@ -65,7 +70,7 @@ impl TxnChanges {
     pub fn into_list(self, alloc: Global) -> Result<ChangeList, AllocError>
         ensures { IfOk result (λ list. list ≡ self) }
     {
-        let TxnChanges { changes } = self;
+        let TxnChanges { alloc: _, changes } = self;
         ChangeList::from_map(alloc, changes)
     }
 
@@ -95,7 +100,7 @@ impl TxnChanges {
         let Note { change, made: _ } = note;
         leave(&mut self.changes, path_of(op), change);
         if prunes(op) {
-            forget_beneath(&mut self.changes, path_of(op));
+            forget_beneath(self.alloc, &mut self.changes, path_of(op));
         }
     }
 

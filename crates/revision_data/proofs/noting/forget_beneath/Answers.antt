@@ -5,8 +5,8 @@ use Rattle.revision_data.specs.Found.{found}
 use Rattle.revision_data.proofs.{Retained.lookup-retained, Written.kept_if}
 use Rattle.revision_data.proofs.noting.forget_beneath.Goals as goal
 
-pub returns : goal.returns
-returns c = λ q.
+pub returns-in-Err : goal.returns-in-Err
+returns-in-Err c = λ q.
     lookup-retained _
     (λ k. if same_path c.args.path.now k then true else not (is_at_or_under k c.args.path.now))
     (λ k v. v) _ (λ k v b w f' t. search rules) (is_at (path_cmp q)) q (at_is q) _ _
