@@ -4,6 +4,7 @@ The items that a server sends are read by a reader of their own here, which take
 in no other: a space behind each token, numbers without leading zeros, words of letters, digits and `-`.
 """
 
+import os
 import re
 import select
 import signal
@@ -299,6 +300,11 @@ class Server:
     def memory(self):
         """Its memory in KiB, as it is, and at its highest."""
         return memory_of(self.pid)
+
+    def seconds(self):
+        """How long processors have worked for it, in seconds."""
+        words = Path(f"/proc/{self.pid}/stat").read_text().rpartition(")")[2].split()
+        return (int(words[11]) + int(words[12])) / os.sysconf("SC_CLK_TCK")
 
     def fault(self):
         """How it has ended, if it has."""

@@ -5,3 +5,4 @@ pub mod Editor
 pub mod Judging
 pub mod Soundness
 pub mod Texts
+pub mod Closing

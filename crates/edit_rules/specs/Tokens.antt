@@ -1,8 +1,10 @@
 -- What is open in an edit, by its tokens.
-use Rattle.std.specs.Prelude.{ℕ, Bool, true, false, ◌+◌, ◌==◌, ◌&&◌, ◌||◌, not, is_some, List, length, Option, Some, None, option_and_then}
+use Rattle.std.specs.Prelude.{◌≡◌, ℕ, Bool, true, false, ◌+◌, ◌==◌, ◌&&◌, ◌||◌, not, is_some, List, [], ◌∷◌, ◌++◌, length}
+use Rattle.std.specs.Prelude.{Option, Some, None, option_and_then}
 use Rattle.std.specs.{List.{filter, list_any}, BTreeMap.{insert_entry, is_at}, Map.{lookup, remove_entry, set_value, values_of}}
 use Rattle.std.specs.{Cmp.Lexicographic.{slice_cmp, pointwise}, Ordering.nat_cmp}
 use Rattle.svnpath.specs.Paths.{is_at_or_under, PathValue}
+use Rattle.revision_data.specs.Found.{found}
 use Rattle.edit_rules.specs.{declared.opened.Opened.Opened, declared.opened.Opened.TheVariants.{Directory, File}, declared.opened.DeltaState.DeltaState}
 use Rattle.edit_rules.specs.declared.opened.DeltaState.TheVariants.{NotBegun, Reading, Ended}
 
@@ -81,3 +83,33 @@ is_within (Some directory) p = is_at_or_under p directory && (length p == length
 abbrev pub is_placed : Tokens → List ℕ → List ℕ → PathValue → Bool
 is_placed tokens parent token p =
     not (is_some (opened_under tokens token)) && is_within (directory_of tokens parent) p
+
+-- ---- how what is at or under a path is found
+
+-- the path of what is open under a token, and the token as one name more
+abbrev pub place_of : List ℕ → Opened → PathValue
+place_of token opened = path_of opened ++ token ∷ []
+
+-- paths that are known, without more
+abbrev pub Places : Type 0
+Places = List (PathValue × Unit {0})
+
+-- what is open has its place
+abbrev pub HavePlaces : {X : Type 0} → List (PathValue × X) → Tokens → Type 0
+HavePlaces places tokens =
+    (token : List ℕ) (opened : Opened) → opened_under tokens token ≡ Some opened
+    → is_some (found places (place_of token opened)) ≡ true
+
+abbrev pub is_kept : Option (List ℕ) → List ℕ → Bool
+is_kept None token = false
+is_kept (Some kept) token = pointwise ◌==◌ kept token
+
+-- whether it stays open where what is at or under the path is closed, but for what is open under
+-- the token that is kept
+abbrev pub stays_open : Option (List ℕ) → PathValue → List ℕ → Opened → Bool
+stays_open kept p token opened = is_kept kept token || not (is_at_or_under (path_of opened) p)
+
+-- whether something is open that does not
+abbrev pub is_to_close : Option (List ℕ) → PathValue → List ℕ → Option Opened → Bool
+is_to_close kept p token None = false
+is_to_close kept p token (Some opened) = not (stays_open kept p token opened)

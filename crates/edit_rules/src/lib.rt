@@ -3,8 +3,10 @@
 #![tactic(auto)]
 
 mod checksums;
+mod closing;
 mod judging;
 mod laws;
+mod open_tokens;
 mod opened;
 mod texts;
 mod tokens;
@@ -15,6 +17,7 @@ pub use judging::{
     judge_presence, judge_room, judge_source_kind, path_named, source_named,
 };
 pub use laws::{edits_are_right, edits_keep_trees};
+pub use open_tokens::OpenTokens;
 pub use opened::{DeltaState, Opened, OpenedDirectory};
 pub use texts::text_edit_under;
 pub use tokens::{

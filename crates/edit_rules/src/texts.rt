@@ -4,6 +4,7 @@ ghost use Rattle.svnpath.specs.Paths.{PathValue};
 ghost use Rattle.svndiff0.specs.{Applying.Applying, Document.outcome};
 ghost use Rattle.edit_rules.specs.{Texts.MakesTextEdit, Tokens.opened_under, Refusing.end_delta_refusal, Judging.Judges};
 
+use crate::open_tokens::OpenTokens;
 use crate::opened::{DeltaState, Opened};
 use byte_string::ByteString;
 use refusals::{NotDone, Refusal};
@@ -13,7 +14,15 @@ use svndiff0::DiffFault;
 
 /// Makes the edit of a text by the delta of the file that is open under the token. The text is shared and not copied,
 /// and what is open stays as it is.
-pub fn text_edit_under(
+pub fn text_edit_under(tokens: &mut OpenTokens, token: &ByteString) -> Result<EditOp, NotDone>
+    ensures op { MakesTextEdit result (opened_under tokens.old token.now) }
+    ensures same { tokens.new ≡ tokens.old }
+{
+    text_edit_in(&mut tokens.opened, token)
+}
+
+/// Makes the edit of a text by the delta of the file that is open under the token, which stays as it is.
+fn text_edit_in(
     tokens: &mut BTreeMap<ByteString, Opened>,
     token: &ByteString,
 ) -> Result<EditOp, NotDone>

@@ -1,11 +1,13 @@
-//! What is open in an edit, by its tokens.
+//! What is open in an edit, read and changed by its tokens.
 ghost use Rattle.std.specs.Prelude.{◌≡◌, Some, OnOk, IfErr, option_copied};
 ghost use Rattle.svnpath.specs.Paths.{PathValue};
 ghost use Rattle.svndiff0.specs.Applying.{Applying, fed};
 ghost use Rattle.edit_rules.specs.Tokens.{opened_under, directory_of, copies_under, with_change, closed_beneath, others_closed_beneath, has_unfinished};
-ghost use Rattle.edit_rules.specs.{Refusing.chunk_refusal, Judging.Judges, Texts.ReadsBytes};
+ghost use Rattle.edit_rules.specs.{Refusing.chunk_refusal, Judging.Judges, Texts.ReadsBytes, Tokens.{HavePlaces, path_of, Places}};
 ghost use Rattle.refusals.specs.Faults.{IfNoMemory};
 
+use crate::closing::close_under;
+use crate::open_tokens::OpenTokens;
 use crate::opened::{DeltaState, Opened};
 use byte_string::ByteString;
 use refusals::{NotDone, Refusal};
@@ -14,18 +16,15 @@ use svndiff0::DiffFault;
 use svnpath::Path;
 
 /// Gives the directory that is open under the token.
-pub fn directory_under<'a>(
-    tokens: &'a BTreeMap<ByteString, Opened>,
-    token: &ByteString,
-) -> Option<&'a Path>
-    ensures { option_copied result ≡ directory_of tokens.now.entries token.now }
+pub fn directory_under<'a>(tokens: &'a OpenTokens, token: &ByteString) -> Option<&'a Path>
+    ensures { option_copied result ≡ directory_of tokens.now token.now }
 {
     tokens.get(token)?.directory()
 }
 
 /// Says whether the directory that is open under the token was added with a copy, or opened beneath such a one.
-pub fn copies_under(tokens: &BTreeMap<ByteString, Opened>, token: &ByteString) -> bool
-    ensures { result ≡ copies_under tokens.now.entries token.now }
+pub fn copies_under(tokens: &OpenTokens, token: &ByteString) -> bool
+    ensures { result ≡ copies_under tokens.now token.now }
 {
     match tokens.get(token) {
         None => false,
@@ -34,35 +33,58 @@ pub fn copies_under(tokens: &BTreeMap<ByteString, Opened>, token: &ByteString) -
 }
 
 /// Says whether a text delta has not ended.
-pub fn has_unfinished(tokens: &BTreeMap<ByteString, Opened>) -> bool
-    ensures { result ≡ has_unfinished tokens.now.entries }
+pub fn has_unfinished(tokens: &OpenTokens) -> bool
+    ensures { result ≡ has_unfinished tokens.now }
 {
-    tokens.values().any(|opened| opened.is_unfinished())
+    tokens.opened.values().any(|opened| opened.is_unfinished())
 }
 
 /// Closes what is open at or under the path.
-pub fn close_beneath(tokens: &mut BTreeMap<ByteString, Opened>, path: &Path)
-    ensures { tokens.new.entries ≡ closed_beneath tokens.old.entries path.now }
+pub fn close_beneath(tokens: &mut OpenTokens, path: &Path)
+    ensures { tokens.new ≡ closed_beneath tokens.old path.now }
 {
-    tokens.retain(|_, opened| !opened.path().is_at_or_under(path));
+    close_under(
+        tokens.alloc,
+        &mut tokens.opened,
+        &mut tokens.places,
+        path,
+        None,
+    );
 }
 
 /// Closes what is open at or under the path, but for what is open under the token.
-pub fn close_others_beneath(
-    tokens: &mut BTreeMap<ByteString, Opened>,
-    path: &Path,
-    token: &ByteString,
-)
-    ensures { tokens.new.entries ≡ others_closed_beneath tokens.old.entries path.now token.now }
+pub fn close_others_beneath(tokens: &mut OpenTokens, path: &Path, token: &ByteString)
+    ensures { tokens.new ≡ others_closed_beneath tokens.old path.now token.now }
 {
-    tokens.retain(|key, opened| token == key || !opened.path().is_at_or_under(path));
+    close_under(
+        tokens.alloc,
+        &mut tokens.opened,
+        &mut tokens.places,
+        path,
+        Some(token),
+    );
 }
 
 /// Sets another delta of the file that is open under the token. It takes no memory.
-pub fn set_delta(tokens: &mut BTreeMap<ByteString, Opened>, token: &ByteString, delta: DeltaState)
+pub fn set_delta(tokens: &mut OpenTokens, token: &ByteString, delta: DeltaState)
     ensures { (p : PathValue) (old : DeltaState)
+        → opened_under tokens.old token.now ≡ Some (Opened.File p old)
+        → tokens.new ≡ with_change tokens.old token.now (Opened.File p delta) }
+{
+    set_delta_in(&mut tokens.opened, token, delta);
+}
+
+/// Sets another delta of the file that is open under the token, and changes no path.
+fn set_delta_in(
+    tokens: &mut BTreeMap<ByteString, Opened>,
+    token: &ByteString,
+    delta: DeltaState,
+)
+    ensures set { (p : PathValue) (old : DeltaState)
         → opened_under tokens.old.entries token.now ≡ Some (Opened.File p old)
         → tokens.new.entries ≡ with_change tokens.old.entries token.now (Opened.File p delta) }
+    ensures placed { (places : Places) → HavePlaces places tokens.old.entries
+        → HavePlaces places tokens.new.entries }
 {
     if let Some(opened) = tokens.get_mut(token) {
         replace_delta(opened, delta);
@@ -71,8 +93,9 @@ pub fn set_delta(tokens: &mut BTreeMap<ByteString, Opened>, token: &ByteString, 
 
 /// Sets another delta of a file.
 fn replace_delta(opened: &mut Opened, delta: DeltaState)
-    ensures { (p : PathValue) (old : DeltaState) → opened.old ≡ Opened.File p old
+    ensures set { (p : PathValue) (old : DeltaState) → opened.old ≡ Opened.File p old
         → opened.new ≡ Opened.File p delta }
+    ensures path { path_of opened.new ≡ path_of opened.old }
 {
     if let Opened::File(_, slot) = opened {
         *slot = delta;
@@ -81,13 +104,27 @@ fn replace_delta(opened: &mut Opened, delta: DeltaState)
 
 /// Reads the next bytes of the text delta of the file that is open under the token.
 pub fn feed_under(
+    tokens: &mut OpenTokens,
+    token: &ByteString,
+    bytes: &[u8],
+) -> Result<(), NotDone>
+    ensures { ReadsBytes result bytes.now (opened_under tokens.old token.now)
+        (λ o. tokens.new ≡ with_change tokens.old token.now o) (tokens.new ≡ tokens.old) }
+{
+    feed_in(&mut tokens.opened, token, bytes)
+}
+
+/// Reads the next bytes of the text delta of the file that is open under the token, and changes no path.
+fn feed_in(
     tokens: &mut BTreeMap<ByteString, Opened>,
     token: &ByteString,
     bytes: &[u8],
 ) -> Result<(), NotDone>
-    ensures { ReadsBytes result bytes.now (opened_under tokens.old.entries token.now)
+    ensures reads { ReadsBytes result bytes.now (opened_under tokens.old.entries token.now)
         (λ o. tokens.new.entries ≡ with_change tokens.old.entries token.now o)
         (tokens.new.entries ≡ tokens.old.entries) }
+    ensures placed { (places : Places) → HavePlaces places tokens.old.entries
+        → HavePlaces places tokens.new.entries }
 {
     let mut fed = Err(NotDone::Refused(Refusal::MalformedData));
     if let Some(opened) = tokens.get_mut(token) {
@@ -98,8 +135,9 @@ pub fn feed_under(
 
 /// Reads the next bytes of a file's text delta.
 fn feed_opened(opened: &mut Opened, bytes: &[u8]) -> Result<(), NotDone>
-    ensures { ReadsBytes result bytes.now (Some opened.old) (λ o. opened.new ≡ o)
+    ensures reads { ReadsBytes result bytes.now (Some opened.old) (λ o. opened.new ≡ o)
         (opened.new ≡ opened.old) }
+    ensures path { path_of opened.new ≡ path_of opened.old }
 {
     match opened {
         Opened::File(_, delta) => feed(delta, bytes),

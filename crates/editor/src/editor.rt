@@ -4,12 +4,10 @@ ghost use Rattle.edit_rules.specs.{Editor.{Applies, finished, given_up, NotAppli
 ghost use Rattle.edit_rules.specs.{Judging.{Judges, Leaves}, Refusing.{before_root, edit_refusal}, Soundness.{IsSoundEdit, IsSoundOn}};
 
 use crate::room::EDIT_LIMIT;
-use byte_string::ByteString;
-use edit_rules::{Opened, has_unfinished, judge};
+use edit_rules::{OpenTokens, has_unfinished, judge};
 use refusals::{NotDone, Refusal};
 use repo_api::{FileText, NodeKind, Repository};
 use std::alloc::{AllocError, Global};
-use std::collections::BTreeMap;
 use std::marker::Model;
 use std::sync::Arc;
 use svnpath::Path;
@@ -21,7 +19,7 @@ pub struct CommitEditor<R: Repository> {
     pub(crate) path: Path,
     pub(crate) name: String,
     pub(crate) txn: Option<R::Txn>,
-    pub(crate) tokens: BTreeMap<ByteString, Opened>,
+    pub(crate) tokens: OpenTokens,
     pub(crate) refused: bool,
     /// How many bytes of memory it may still take.
     pub(crate) room: u64,
@@ -53,7 +51,7 @@ impl<R: Repository> Model for CommitEditor<R> {
       path = e.path;
       name = string_bytes e.name;
       txn = option_map R.txn_state e.txn;
-      tokens = e.tokens.entries;
+      tokens = e.tokens;
       refused = e.refused;
     } };
 }
@@ -68,7 +66,7 @@ impl<R: Repository> CommitEditor<R> {
             path,
             name,
             txn: None,
-            tokens: BTreeMap::new(alloc),
+            tokens: OpenTokens::new(alloc),
             refused: false,
             room: EDIT_LIMIT,
         }
@@ -99,7 +97,7 @@ impl<R: Repository> CommitEditor<R> {
         ensures fault { result ≡ NotDone.Refused refusal }
     {
         self.txn = None;
-        self.tokens = BTreeMap::new(self.alloc);
+        self.tokens = OpenTokens::new(self.alloc);
         self.refused = true;
         NotDone::Refused(refusal)
     }

@@ -498,6 +498,6 @@ impl<R: Repository> CommitEditor<R> {
     fn is_placed(&self, parent: &ByteString, token: &ByteString, path: &Path) -> bool
         ensures { result ≡ is_placed self.now.tokens parent.now token.now path.now }
     {
-        !self.tokens.contains_key(token) && is_within(directory_under(&self.tokens, parent), path)
+        self.tokens.get(token).is_none() && is_within(directory_under(&self.tokens, parent), path)
     }
 }

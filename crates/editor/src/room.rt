@@ -3,10 +3,9 @@ ghost use Rattle.std.specs.Prelude.{◌≡◌};
 
 use crate::editor::CommitEditor;
 use byte_string::ByteString;
-use edit_rules::{DeltaState, Opened};
+use edit_rules::{DeltaState, OpenTokens, Opened};
 use repo_api::Repository;
 use std::alloc::AllocError;
-use std::collections::BTreeMap;
 use wire_edits::{EditorCommand, PropertyChange};
 
 /// About how many bytes of memory an edit takes at most: 4 GiB.
@@ -76,7 +75,7 @@ fn weight(command: &EditorCommand, names: usize) -> u64 {
 }
 
 /// Says what a text counts as once it is made, in bytes; `None` if its delta makes none.
-fn text_weight(tokens: &BTreeMap<ByteString, Opened>, token: &ByteString) -> Option<u64> {
+fn text_weight(tokens: &OpenTokens, token: &ByteString) -> Option<u64> {
     match tokens.get(token) {
         Some(Opened::File(_, DeltaState::Reading(delta))) => match delta.text() {
             Ok(text) => Some(COPIES_OF_TEXT.saturating_mul(text.len() as u64)),

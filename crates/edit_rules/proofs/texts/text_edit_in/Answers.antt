@@ -1,6 +1,6 @@
 use Rattle.std.specs.{BTreeMap.is_at, Cmp.Lexicographic.slice_cmp, Ordering.nat_cmp}
 use Rattle.edit_rules.proofs.Kept.{written_over}
-use Rattle.edit_rules.proofs.texts.text_edit_under.Goals as goal
+use Rattle.edit_rules.proofs.texts.text_edit_in.Goals as goal
 
 pub returns-in-Some-clause-same : goal.returns-in-Some-clause-same
 returns-in-Some-clause-same c =
