@@ -2,10 +2,10 @@
 use Rattle.std.proofs.Common.{◌≡◌, ℕ, Bool, true, false, cond, not, ◌&&◌, ◌||◌, is_some, List, [], ◌∷◌, ◌++◌, drop, length, Option, Some, None, refl, sym, ap, subst, ◌∙◌}
 use Rattle.std.proofs.Common.{append-nil, append_assoc}
 use Rattle.std.proofs.{lemmas.Bool.false≢true, lemmas.Option.none-some, lemmas.List.Folds.list_any-append, lemmas.Map.Keys.{sorted_head, sorted_tail}}
-use Rattle.std.specs.{BTreeMap.is_at, Cmp.Lexicographic.{slice_cmp, texts_ties}, List.{AllByRecursion, filter, list_any}, List.Sorted.IsStrictlySortedBy}
+use Rattle.std.specs.{BTreeMap.is_at, Cmp.Lexicographic.{slice_cmp, texts_ties}, List.{AllByRecursion, filter}, List.Sorted.IsStrictlySortedBy}
 use Rattle.std.specs.{Map.{keys_of, lookup, remove_entry}, Ordering.{is_eq, nat_cmp}, Prelude.if◌then◌else◌, declared.cmp.Ordering.TheVariants.Less}
 use Rattle.svnpath.specs.PathLaws.{same_component_is, same_component_refl, same_path-append, same_path_is, under_append, under_is}
-use Rattle.svnpath.specs.Paths.{Component, is_at_or_under, PathValue, same_component, same_path}
+use Rattle.svnpath.specs.Paths.{Component, is_at_or_under, PathValue, same_path}
 use Rattle.revision_data.specs.Found.{found, is_beneath, is_listed}
 use Rattle.edit_rules.specs.{Closing.ClosesAt, Tokens.{HavePlaces, is_kept, is_to_close, opened_under, path_of, place_of, stays_open, Tokens}}
 use Rattle.edit_rules.specs.declared.opened.Opened.{Opened}

@@ -32,11 +32,7 @@ pub(crate) fn close_under(
 }
 
 /// Closes what is open at or under the path, but for what is kept, going through all that is open.
-fn close_by_walk(
-    opened: &mut BTreeMap<ByteString, Opened>,
-    path: &Path,
-    kept: Option<&ByteString>,
-)
+fn close_by_walk(opened: &mut BTreeMap<ByteString, Opened>, path: &Path, kept: Option<&ByteString>)
     ensures closed { opened.new.entries
         ≡ filter (λ e. stays_open (option_copied kept.entry) path.now e.0 e.1) opened.old.entries }
     ensures placed { (places : Places) → HavePlaces places opened.old.entries

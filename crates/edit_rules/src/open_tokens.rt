@@ -127,12 +127,7 @@ fn close_in(
 
 /// Takes out the place of what was open under the token at the path. Where memory runs out for its name, it stays, and
 /// is found in vain.
-fn forget_place(
-    alloc: Global,
-    places: &mut BTreeMap<Path, ()>,
-    token: &ByteString,
-    path: &Path,
-)
+fn forget_place(alloc: Global, places: &mut BTreeMap<Path, ()>, token: &ByteString, path: &Path)
     ensures { (q : PathValue) → same_path (path.now ++ token.now ∷ []) q ≡ false
         → found places.new.entries q ≡ found places.old.entries q }
 {

@@ -75,11 +75,7 @@ pub fn set_delta(tokens: &mut OpenTokens, token: &ByteString, delta: DeltaState)
 }
 
 /// Sets another delta of the file that is open under the token, and changes no path.
-fn set_delta_in(
-    tokens: &mut BTreeMap<ByteString, Opened>,
-    token: &ByteString,
-    delta: DeltaState,
-)
+fn set_delta_in(tokens: &mut BTreeMap<ByteString, Opened>, token: &ByteString, delta: DeltaState)
     ensures set { (p : PathValue) (old : DeltaState)
         → opened_under tokens.old.entries token.now ≡ Some (Opened.File p old)
         → tokens.new.entries ≡ with_change tokens.old.entries token.now (Opened.File p delta) }
@@ -103,11 +99,7 @@ fn replace_delta(opened: &mut Opened, delta: DeltaState)
 }
 
 /// Reads the next bytes of the text delta of the file that is open under the token.
-pub fn feed_under(
-    tokens: &mut OpenTokens,
-    token: &ByteString,
-    bytes: &[u8],
-) -> Result<(), NotDone>
+pub fn feed_under(tokens: &mut OpenTokens, token: &ByteString, bytes: &[u8]) -> Result<(), NotDone>
     ensures { ReadsBytes result bytes.now (opened_under tokens.old token.now)
         (λ o. tokens.new ≡ with_change tokens.old token.now o) (tokens.new ≡ tokens.old) }
 {

@@ -21,8 +21,8 @@ const COPIES_OF_TEXT: u64 = 4;
 /// What a command counts as beside its strings and the names of its path, in bytes.
 const COMMAND: u64 = 512;
 
-/// What a name of a path counts as beside its bytes: a path is kept in two places.
-const NAME: usize = 128;
+/// What a name of a path counts as beside its bytes: a path is kept in three places, of which one has the token too.
+const NAME: usize = 192;
 
 /// Says how many bytes the names of a relative path count as.
 fn path_weight(path: &ByteString) -> usize {
