@@ -31,13 +31,13 @@ impl Progress for Telling<'_> {
     }
 }
 
-/// Makes sure that no repository is in the folder of the copy.
+/// Makes sure that no repository is in the folder of the copy, as far as that can be seen.
 fn check_free(rt: &HostRuntime, new: &str) -> Result<(), ProgramFault> {
     let format = format!(in rt.alloc(); "{new}/db/format")?;
     match fs::exists(rt, format.as_str()) {
-        Ok(false) => Ok(()),
         Ok(true) => Err(ProgramFault::NewStore(StoreFault::Exists)),
-        Err(_) => Err(ProgramFault::NewStore(StoreFault::Device)),
+        // a look that fails is made again before anything is copied
+        Ok(false) | Err(_) => Ok(()),
     }
 }
 
