@@ -39,7 +39,7 @@ fn most_bytes(awaited: Awaited) -> usize
 
 /// Gives how many items there may be in a command.
 fn most_items_of_command(user: Option<&ByteString>) -> usize
-    ensures { result ≡ most_items Awaited.Command (option_copied user) }
+    ensures { result ≡ most_items Awaited.Command (option_copied user.entry) }
 {
     match user {
         None => MANY,
@@ -49,7 +49,7 @@ fn most_items_of_command(user: Option<&ByteString>) -> usize
 
 /// Gives how many items there may be in one that is not whole yet.
 fn most_items(awaited: Awaited, user: Option<&ByteString>) -> usize
-    ensures { result ≡ most_items awaited (option_copied user) }
+    ensures { result ≡ most_items awaited (option_copied user.entry) }
 {
     match awaited {
         Awaited::Login => FEW,

@@ -1,5 +1,5 @@
 //! One session between a reader and a writer, at a repository that others may change.
-ghost use Rattle.std.specs.{Prelude.{◌≡◌, [], ◌∷◌, true, IfOk, IfErr}, Io.KnownBytes.Appends};
+ghost use Rattle.std.specs.{Prelude.{◌≡◌, [], ◌∷◌, true, IfOk, IfErr}, Io.ReadsAtMost, Io.KnownBytes.{Appends, ReadConsumes}};
 ghost use Rattle.repo_api.specs.Soundness.{AreSound};
 ghost use Rattle.access.specs.Points.{content_of};
 ghost use Rattle.wire_replies.specs.Replies.{print};
@@ -38,6 +38,11 @@ fn greeting(alloc: Global) -> Result<Vec<u8>, TalkFault>
 /// Gives the user that the client of a session has logged in as, unless it was told before.
 fn user_unless<R: Repository>(was_told: bool, session: &Session<R>) -> Option<&ByteString> {
     if was_told { None } else { session.user() }
+}
+
+/// Says whether a session holds more of an item than it may. Nothing that is promised of a session rests on it.
+fn holds_too_much<R: Repository>(session: &Session<R>) -> bool {
+    is_past_limits(session)
 }
 
 /// What one thread serves sessions with, one after another.
@@ -115,6 +120,22 @@ impl<'w, A: RepoAccess + Drop, E: EnvSource + Drop, G: Gate, W: Watch> Worker<'w
         }
     }
 
+    /// Reads a piece of the input, after the gate has heard what the session waits for.
+    fn read_next<I: Read>(
+        &self,
+        number: u64,
+        session: &Session<A::View>,
+        input: &mut I,
+        buffer: &mut [u8],
+    ) -> io::Result<usize>
+        ensures bound { ReadsAtMost result buffer.new }
+        ensures bytes { ReadConsumes (I.remaining input.old) (I.remaining input.new) result
+            buffer.new }
+    {
+        self.gate.awaits(number, session.awaited());
+        read_piece(input, buffer)
+    }
+
     /// Answers pieces of the input, each before the next is read, until it ends or the session isn't open any more. An
     /// item that is not whole within the limits ends it too: it may pass them by what comes with one piece.
     fn converse<I: Read, O: Write>(
@@ -137,11 +158,12 @@ impl<'w, A: RepoAccess + Drop, E: EnvSource + Drop, G: Gate, W: Watch> Worker<'w
             if !session.is_open() {
                 return Ok(());
             }
-            if is_past_limits(&session) {
+            if holds_too_much(&session) {
                 return Err(TalkFault::TooLong);
             }
-            self.gate.awaits(number, session.awaited());
-            let count = read_piece(input, &mut buffer).map_err(TalkFault::Read)?;
+            let count = self
+                .read_next(number, &session, input, &mut buffer)
+                .map_err(TalkFault::Read)?;
             if count == 0 {
                 return Ok(());
             }

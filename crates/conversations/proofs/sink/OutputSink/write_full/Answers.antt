@@ -1,4 +1,4 @@
-use Rattle.std.proofs.Common.{ℕ, List, Vec, Global, ap, append-nil, subst, sym, ◌∙◌}
+use Rattle.std.proofs.Common.{[], ℕ, List, Vec, Global, ap, append-nil, subst, sym, ◌∙◌}
 use Rattle.std.specs.Io.KnownBytes.{Appends}
 use Rattle.conversations.proofs.Gathered.{unchanged, whole_written}
 use Rattle.conversations.proofs.sink.OutputSink.write_full.Goals as goal

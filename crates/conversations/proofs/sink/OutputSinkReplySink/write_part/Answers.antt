@@ -1,4 +1,4 @@
-use Rattle.std.proofs.Common.{[], ℕ, List, append-nil, subst}
+use Rattle.std.proofs.Common.{◌≡◌, [], ℕ, List, append-nil, subst}
 use Rattle.conversations.specs.Gathering.{Gathers, gathers_more}
 use Rattle.conversations.proofs.Gathered.{only_gathered, written_so}
 use Rattle.conversations.proofs.sink.OutputSinkReplySink.write_part.Goals as goal
@@ -12,7 +12,8 @@ returns g c =
     let part = c.args.part.now in
     let grown = gathers_more held held held' s.buffer.items c.extend_from_slice.new.self.items t.buffer.items s.fault s.fault t.fault part []
     (λ none. (none, only_gathered held s.buffer.items c.extend_from_slice.new.self.items part c.in_ok-extend_from_slice.ensures.items)) c.write_full.ensures.gathered in
-    written_so c.write_full.result _ part (
+    let writes : List ℕ → Type 0 = λ bytes. (t.output.ghost_name ≡ s.output.ghost_name) × Gathers held s.buffer.items s.fault held' t.buffer.items t.fault bytes in
+    written_so c.write_full.result writes part (
       c.write_full.ensures.same_reference,
       subst (λ (bytes : List ℕ). Gathers held s.buffer.items s.fault held' t.buffer.items t.fault bytes) (append-nil part) grown,
     )

@@ -22,12 +22,12 @@ returns-in_err-answer_piece-clause-conversed g c =
     let remaining = g.I.Read.remaining in
     let contents = g.O.Write.contents in
     let point = g.A.RepoAccess.point in
-    let buffer = c.read_piece.new.buffer in
-    let count = was_ok _ c.read_piece.result c.in_ok-count.count c.in_ok-count.ensures.cases in
-    let bytes = subst (λ r. ReadConsumes (remaining c.loop-turn.input) (remaining c.read_piece.new.input) r buffer) count c.read_piece.ensures.bytes in
+    let buffer = c.read_next.new.buffer in
+    let count = was_ok _ c.read_next.result c.in_ok-count.count c.in_ok-count.ensures.cases in
+    let bytes = subst (λ r. ReadConsumes (remaining c.loop-turn.input) (remaining c.read_next.new.input) r buffer) count c.read_next.ensures.bytes in
     let old = sight (point c.args.self.now.access) (remaining c.args.input.now) (contents c.args.output.now) c.args.self.now.envs in
     let mid = sight (point c.loop-turn.self.access) (remaining c.loop-turn.input) (contents c.loop-turn.output) c.loop-turn.self.envs in
-    let new = sight (point c.answer_piece.new.self.access) (remaining c.read_piece.new.input) (contents c.answer_piece.new.output) c.answer_piece.new.self.envs in
+    let new = sight (point c.answer_piece.new.self.access) (remaining c.read_next.new.input) (contents c.answer_piece.new.output) c.answer_piece.new.self.envs in
     let piece = take c.in_ok-count.count buffer in
     let given = subst (λ e. g.E.EnvSource.gives c.loop-turn.self.envs c.next_env-env.result e) (sym c.answer_piece.ensures.envs) c.next_env-env.ensures in
     let fault = c.in_err-answer_piece.field-0.0 in
@@ -41,11 +41,11 @@ loop-turn-preserved g c =
     let remaining = g.I.Read.remaining in
     let contents = g.O.Write.contents in
     let point = g.A.RepoAccess.point in
-    let buffer = c.read_piece.new.buffer in
-    let read = was_ok _ c.read_piece.result c.in_ok-count.count c.in_ok-count.ensures.cases in
-    let bound = subst (λ r. ReadsAtMost r buffer) read c.read_piece.ensures.bound in
-    let bytes = subst (λ r. ReadConsumes (remaining c.loop-turn.input) (remaining c.read_piece.new.input) r buffer) read c.read_piece.ensures.bytes in
-    let full : length buffer ≡ 65536 = c.read_piece.auto.buffer ∙ c.loop-turn.invariant.0 in
+    let buffer = c.read_next.new.buffer in
+    let read = was_ok _ c.read_next.result c.in_ok-count.count c.in_ok-count.ensures.cases in
+    let bound = subst (λ r. ReadsAtMost r buffer) read c.read_next.ensures.bound in
+    let bytes = subst (λ r. ReadConsumes (remaining c.loop-turn.input) (remaining c.read_next.new.input) r buffer) read c.read_next.ensures.bytes in
+    let full : length buffer ≡ 65536 = c.read_next.auto.buffer ∙ c.loop-turn.invariant.0 in
     let given = subst (λ e. g.E.EnvSource.gives c.loop-turn.self.envs c.next_env-env.result e) (sym c.answer_piece.ensures.envs) c.next_env-env.ensures in
     let y = c.loop-turn.session in
     let fed = subst (λ s. FeedWritten g.A.RepoAccess.rules s c.next_env-env.result (point c.loop-turn.self.access) y.phase
@@ -60,7 +60,7 @@ loop-turn-preserved g c =
       converses_more g.A.RepoAccess.rules c.args.self.now.options.now g.E.EnvSource.gives
           (sight (point c.args.self.now.access) (remaining c.args.input.now) (contents c.args.output.now) c.args.self.now.envs)
           (sight (point c.loop-turn.self.access) (remaining c.loop-turn.input) (contents c.loop-turn.output) c.loop-turn.self.envs)
-          (sight (point c.answer_piece.new.self.access) (remaining c.read_piece.new.input) (contents c.answer_piece.new.output) c.answer_piece.new.self.envs)
+          (sight (point c.answer_piece.new.self.access) (remaining c.read_next.new.input) (contents c.answer_piece.new.output) c.answer_piece.new.self.envs)
           c.loop-turn.session.phase c.answer_piece.new.session.phase c.loop-turn.session.rest c.answer_piece.new.session.rest
           (take c.in_ok-count.count buffer) c.next_env-env.result
           some at_most c.loop-turn.invariant.3 bytes.0 given fed,
@@ -71,10 +71,10 @@ returns-then-count-eq0-clause-conversed g c =
     let remaining = g.I.Read.remaining in
     let contents = g.O.Write.contents in
     let point = g.A.RepoAccess.point in
-    let buffer = c.read_piece.new.buffer in
-    let read = was_ok _ c.read_piece.result c.in_ok-count.count c.in_ok-count.ensures.cases in
-    let bytes = subst (λ r. ReadConsumes (remaining c.loop-turn.input) (remaining c.read_piece.new.input) r buffer) read c.read_piece.ensures.bytes in
-    let full : length buffer ≡ 65536 = c.read_piece.auto.buffer ∙ c.loop-turn.invariant.0 in
+    let buffer = c.read_next.new.buffer in
+    let read = was_ok _ c.read_next.result c.in_ok-count.count c.in_ok-count.ensures.cases in
+    let bytes = subst (λ r. ReadConsumes (remaining c.loop-turn.input) (remaining c.read_next.new.input) r buffer) read c.read_next.ensures.bytes in
+    let full : length buffer ≡ 65536 = c.read_next.auto.buffer ∙ c.loop-turn.invariant.0 in
     let some : 0 < length buffer = omega (arith, full) in
     let zero : c.in_ok-count.count ≡ 0 = omega (arith, c.if-count-eq0.true) in
     let x = c.loop-turn.session in (
@@ -84,7 +84,7 @@ returns-then-count-eq0-clause-conversed g c =
         converses = converses_end g.A.RepoAccess.rules c.args.self.now.options.now g.E.EnvSource.gives
             (sight (point c.args.self.now.access) (remaining c.args.input.now) (contents c.args.output.now) c.args.self.now.envs)
             (sight (point c.loop-turn.self.access) (remaining c.loop-turn.input) (contents c.loop-turn.output) c.loop-turn.self.envs)
-            x.phase x.rest (remaining c.read_piece.new.input) c.in_ok-count.count buffer c.loop-turn.invariant.3 zero bytes.0;
+            x.phase x.rest (remaining c.read_next.new.input) c.in_ok-count.count buffer c.loop-turn.invariant.3 zero bytes.0;
       },
       λ _. bytes.1 zero some,
     )
