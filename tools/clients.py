@@ -276,9 +276,9 @@ def sharded(size):
 
 class Server:
     """A server that runs at a repository in a folder. Where it is missing it is made, of a format, and with shards of so many
-    revisions if that is said."""
+    revisions if that is said. Its standard error goes to a file, or to a pipe that nobody reads."""
 
-    def __init__(self, program, room, address_space=None, format=3, shard=None):
+    def __init__(self, program, room, address_space=None, format=3, shard=None, is_read=True):
         self.program, self.folder, self.port = program, room / "repository", free_port()
         self.users, self.journal = room / "users", room / "journal"
         if not self.folder.exists():
@@ -292,7 +292,8 @@ class Server:
         if address_space:
             words = ["prlimit", f"--as={address_space}", *words]
         with self.journal.open("ab") as journal:
-            self.process = subprocess.Popen(list(map(str, words)), stdin=subprocess.DEVNULL, stdout=subprocess.PIPE, stderr=journal)
+            error = journal if is_read else subprocess.PIPE
+            self.process = subprocess.Popen(list(map(str, words)), stdin=subprocess.DEVNULL, stdout=subprocess.PIPE, stderr=error)
         if self.process.stdout.readline() != b"ready\n":
             sys.exit(f"the server does not start: {self.journal.read_text()}")
         self.pid = self.process.pid

@@ -1,5 +1,5 @@
 //! A repository as a session reaches it.
-ghost use Rattle.std.specs.Prelude.{◌≡◌, ◌≤◌, true, IfOk};
+ghost use Rattle.std.specs.Prelude.{◌≡◌, ◌≤◌, true, IfOk, [], ◌∷◌, ◌++◌};
 ghost use Rattle.repo_api.specs.{Accepted.{Accepted, changed}, Soundness.AreSound, States.IsBeginning, Transactions.MayCommit};
 ghost use Rattle.access.specs.{Points.{Point, AccessRules, content_of}, Changing.{CommitsAt, LocksAt, UnlocksAt, ChangesPropertyAt, Happens}};
 
@@ -91,6 +91,16 @@ pub trait RepoAccess {
     ghost counts: { (p : Point) (e : Accepted) (q : Point) → rules.adds p e q
         → (content_of q ≡ changed (content_of p) e) × (q.halted ≡ p.halted) × (q.failures ≡ p.failures)
         × (q.pending ≡ p.pending) };
+}
+
+/// An access that others share: its own changes are told from theirs.
+pub trait SharedAccess: RepoAccess {
+    /// No change between two calls is one's own.
+    ghost others: { (p q : Point) → Self.rules.between p q → q.own ≡ p.own };
+
+    /// A change of one's own is one more of these.
+    ghost counted: { (p : Point) (e : Accepted) (q : Point) → Self.rules.adds p e q
+        → q.own ≡ p.own ++ e ∷ [] };
 }
 
 /// An access that nobody shares: nothing changes between two calls.

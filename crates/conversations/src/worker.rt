@@ -145,6 +145,7 @@ impl<'w, A: RepoAccess + Drop, E: EnvSource + Drop, G: Gate, W: Watch> Worker<'w
         output: &mut O,
     ) -> Result<(), TalkFault>
         requires { AreSound (content_of (A.point self.old.access)).revisions }
+        ensures options { self.new.options.now ≡ self.old.options.now }
         ensures sound { AreSound (content_of (A.point self.new.access)).revisions }
         ensures conversed { Conversed result A.rules self.old.options.now E.gives
             (sight (A.point self.old.access) (I.remaining input.old) (O.contents output.old)
@@ -183,6 +184,7 @@ impl<'w, A: RepoAccess + Drop, E: EnvSource + Drop, G: Gate, W: Watch> Worker<'w
         output: &mut O,
     ) -> Result<(), TalkFault>
         requires { AreSound (content_of (A.point self.old.access)).revisions }
+        ensures options { self.new.options.now ≡ self.old.options.now }
         ensures sound { AreSound (content_of (A.point self.new.access)).revisions }
         ensures served { Served result A.rules self.old.options.now E.gives
             (sight (A.point self.old.access) (I.remaining input.old) (O.contents output.old)

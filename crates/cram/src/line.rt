@@ -1,6 +1,7 @@
 // One line of the users file.
 ghost use Rattle.std.specs.{Prelude.{◌≡◌, ℕ, ◌<◌, ◌==◌, ◌∷◌, length, MatchOption}, Str.Lines.{lines, strip_carriage_return}};
-ghost use Rattle.cram.specs.Line.{is_blank, is_user_name, has_right_length, line_of, pair_of, pair_or_wrong, without_first_blanks, without_last_blanks};
+ghost use Rattle.cram.specs.Line.{is_blank, is_outside_names, is_user_name, has_right_length};
+ghost use Rattle.cram.specs.Line.{line_of, pair_of, pair_or_wrong, without_first_blanks, without_last_blanks};
 ghost use Rattle.cram.specs.{Parts.{IsSplitAtFirst, IsWithout}, ParsedLine.said_by};
 
 // The most bytes of a name or of a password.
@@ -80,11 +81,18 @@ fn parse_pair(line: &[u8]) -> ParsedLine<'_>
     }
 }
 
-/// Says whether a user may have the name: 1 to 255 bytes, none of them a space or a tab.
+/// Says whether a user may have the name: 1 to 255 bytes, none of them a space, a tab or a NUL.
 pub fn is_user_name(bytes: &[u8]) -> bool
     ensures { result ≡ is_user_name bytes.now }
 {
-    has_right_length(bytes) && !bytes.iter().any(|b| is_blank(*b))
+    has_right_length(bytes) && !bytes.iter().any(|b| is_outside_names(*b))
+}
+
+/// Says whether the byte is a space, a tab or a NUL.
+fn is_outside_names(byte: u8) -> bool
+    ensures { result ≡ is_outside_names byte }
+{
+    is_blank(byte) || byte == 0
 }
 
 // Whether a name or a password may have as many bytes.

@@ -7,7 +7,8 @@ use Rattle.store_files.specs.{declared.store.Store.Ghosts, declared.fault.StoreF
 use Rattle.store_files.specs.declared.fault.StoreFault.TheVariants as store
 use Rattle.repostore.specs.{Saving.SaveEnds, declared.saves.Saves.Saves}
 use Rattle.stops.specs.Beginnings.{through}
-use Rattle.sharedrepo.specs.{Archives.{Kept, SaveLeaves}, declared.archive.SaveFault.SaveFault}
+use Rattle.published.specs.Files.{Kept}
+use Rattle.archives.specs.{Archives.SaveLeaves, declared.archive.SaveFault.SaveFault}
 use Rattle.store_access.specs.Leaving.{FilesLeave}
 use Rattle.store_access.specs.declared.filed.Filed as Filed
 use Rattle.store_access.proofs.Leaving.{save_leaves}

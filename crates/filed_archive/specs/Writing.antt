@@ -10,8 +10,9 @@ use Rattle.repostore.specs.declared.saves.Saves.{Saves}
 use Rattle.stops.specs.Beginnings.{through}
 use Rattle.store_access.specs.Leaving.{FilesLeave, FilesStand}
 use Rattle.store_access.specs.declared.filed.Filed as Filed
-use Rattle.sharedrepo.specs.{Archives.{Kept, SaveLeaves}, declared.archive.SaveFault.SaveFault}
-use Rattle.sharedrepo.specs.declared.archive.SaveFault.TheVariants as faults
+use Rattle.published.specs.Files.{Kept}
+use Rattle.archives.specs.{Archives.SaveLeaves, declared.archive.SaveFault.SaveFault}
+use Rattle.archives.specs.declared.archive.SaveFault.TheVariants as faults
 use Rattle.filed_archive.specs.{declared.unsaved.ChangedFiles.ChangedFiles, declared.unsaved.ChangedFiles.TheVariants.{Revision, Locks, Properties}}
 use Rattle.filed_archive.specs.{declared.unsaved.Unsaved.Unsaved, declared.filed_archive.FiledArchive.FiledArchive}
 

@@ -2,19 +2,32 @@
 use crate::filed_archive::FiledArchive;
 use crate::unsaved::{ChangedFiles, Unsaved, with_hold};
 use access::Handed;
+use archives::{Archive, SaveFault};
+use published::Files;
 use repo_api::{ChangeFault, CommitAsk, LockAsk, PropertyAsk, UnlockAsk};
-use sharedrepo::{Archive, SaveFault};
 use std::mem::drop;
 use store_access::Filed;
 use store_files::Store;
 
+impl<F: Filed, S: Store> Files for FiledArchive<F, S> {
+    ghost use Rattle.filed_archive.specs.Writing.{kept_of};
+
+    ghost kept = { kept_of };
+
+    fn is_halted(&self) -> bool {
+        self.saves.is_halted()
+    }
+
+    fn failures(&self) -> u64 {
+        self.saves.store().failures()
+    }
+}
+
 impl<F: Filed, S: Store> Archive<F> for FiledArchive<F, S> {
-    ghost use Rattle.filed_archive.specs.Writing.{Leaves, Writes, kept_of, stands_of};
+    ghost use Rattle.filed_archive.specs.Writing.{Leaves, Writes, stands_of};
     ghost use Rattle.filed_archive.specs.Laws.{saves, stays, joins, among, rests};
 
     type Unsaved = Unsaved<F>;
-
-    ghost kept = { kept_of };
 
     ghost stands = { stands_of };
 
@@ -31,14 +44,6 @@ impl<F: Filed, S: Store> Archive<F> for FiledArchive<F, S> {
     ghost among = { among };
 
     ghost rests = { rests };
-
-    fn is_halted(&self) -> bool {
-        self.saves.is_halted()
-    }
-
-    fn failures(&self) -> u64 {
-        self.saves.store().failures()
-    }
 
     fn committed(&self, ask: CommitAsk, txn: F::Txn) -> Result<(F, Unsaved<F>), ChangeFault> {
         let made = self.repository.committed(&ask, &txn);

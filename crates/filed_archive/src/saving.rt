@@ -2,12 +2,12 @@
 ghost use Rattle.std.specs.Prelude.{◌≡◌};
 ghost use Rattle.filed_archive.specs.Writing.{SavesChange, SavesFiles, Writes, kept_of, told_as};
 ghost use Rattle.repo_api.specs.Accepted.{Accepted};
-ghost use Rattle.sharedrepo.specs.Archives.{MaySave};
+ghost use Rattle.archives.specs.Archives.{MaySave};
 
 use crate::filed_archive::FiledArchive;
 use crate::unsaved::{ChangedFiles, Unsaved};
+use archives::SaveFault;
 use repostore::Saves;
-use sharedrepo::SaveFault;
 use std::mem::drop;
 use store_access::Filed;
 use store_files::{Store, StoreFault};

@@ -2,11 +2,13 @@
 ghost use Rattle.std.specs.Prelude.{◌≡◌, true, All, IfOk, IsErrOf};
 ghost use Rattle.access.specs.Points.{content_of};
 ghost use Rattle.repo_api.specs.Soundness.{AreSound};
-ghost use Rattle.sharedrepo.specs.Standing.{HaveSeenOpening};
+ghost use Rattle.keepers.specs.Standing.{HaveSeenOpening};
+ghost use Rattle.published.specs.Events.{point_of};
 
 use crate::filed_archive::FiledArchive;
-use published::{Naming, NewHistory, Published, Shown};
-use sharedrepo::{Archive, Seat, SharedRepo};
+use keepers::Seat;
+use published::{Files, Naming, NewHistory, Published, Shown};
+use sharedrepo::SharedRepo;
 use std::alloc::Global;
 use std::mem::drop;
 use store_access::{Filed, StoredRepository};
@@ -34,7 +36,7 @@ pub fn share<F: Filed, S: Store, J: Naming>(
     requires sound { AreSound (F.content stored.repository).revisions }
     ensures opened { IfOk result (λ r. HaveSeenOpening (F.content stored.repository)
         (S.failed stored.saves.store) r.1.items
-        × All (λ s. AreSound (content_of s).revisions) r.1.items) }
+        × All (λ s. AreSound (content_of (point_of s)).revisions) r.1.items) }
     ensures halted { IsErrOf result StoreFault.Halted → stored.saves.is_halted ≡ true }
 {
     let archive = FiledArchive::new(stored);

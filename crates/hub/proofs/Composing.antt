@@ -3,7 +3,7 @@ use Rattle.std.specs.Prelude.{if◌then◌else◌}
 use Rattle.std.proofs.Common.{◌≡◌, ℕ, List, [], ◌∷◌, ◌++◌, map, Option, Some, None, ◌||◌, Bool, true, false, refl, sym, ap, subst, ◌∙◌, append_assoc}
 use Rattle.repo_api.specs.{Accepted.{Accepted, changed, changed_all}, States.RepoState}
 use Rattle.wire_replies.specs.declared.reply.Reply.{Reply}
-use Rattle.access.specs.Points.{AccessRules, content_of, Point}
+use Rattle.access.specs.{Changing.unchanged_content, Points.{AccessRules, content_of, Point}}
 use Rattle.machine.specs.Answers.{Answer, content_after, Counts, Effect, halted_after, is_halt, no_effect, pending_after, pending_by, says, Step, Verdict}
 use Rattle.machine.specs.{Answers.Verdict.{NotWritten, Unknown, Written}, Hearing.Input, Machine.{InputStep, UnreleasedStep}, Settings.Settings}
 use Rattle.machine.specs.{Stages.{is_open, SessionState, Stage}, Steps.{AddsAll, EffectAt, Leaves as LeavesAt, SessionRun, StepAt, Stores}}
@@ -102,8 +102,8 @@ module _ (rules : AccessRules) (s : Settings) (alone : StandsAlone rules) (count
 
   stored : (v : Verdict) (p q : Point) → Stores v p q → (content_of q ≡ content_of p) × (q.halted ≡ (p.halted || is_halt v)) × Counts v p.failures q.failures × (q.pending ≡ pending_by p.pending v)
   stored Written p q is = (ap content_of is, ap (λ (x : Point). x.halted) is ∙ sym (or_false p.halted), ap (λ (x : Point). x.failures) is, ap (λ (x : Point). x.pending) is)
-  stored NotWritten p q failed = (failed.same, failed.halted ∙ sym (or_false p.halted), failed.risen, failed.pending)
-  stored (Unknown e) p q halt = (halt.same, halt.halted ∙ sym (or_true p.halted), halt.risen, halt.pending)
+  stored NotWritten p q failed = (unchanged_content p q failed.same, failed.halted ∙ sym (or_false p.halted), failed.risen, failed.pending)
+  stored (Unknown e) p q halt = (unchanged_content p q halt.same, halt.halted ∙ sym (or_true p.halted), halt.risen, halt.pending)
 
   moved : (p : Point) (e : Effect) (q : Point) → EffectAt rules p e q → Moved p e q
   moved p e q (mid, adding, storing) =

@@ -56,18 +56,18 @@ pub fn changes_are_asked_for()
 /// locks; and a change of a property by another command than a `change-rev-prop` or `change-rev-prop2` that names it
 /// so, with the value before that it is to have.
 pub fn nothing_else_is_asked_for()
-    ensures commit { (env : Env) (edit : MachineEdit) (t : ItemValue) (ask : CommitAsk) (txn : TxnState)
-        → IsAsked env (Editing edit) (Whole t) (Commits ask txn)
+    ensures commit { (s : Settings) (env : Env) (edit : MachineEdit) (t : ItemValue) (ask : CommitAsk) (txn : TxnState)
+        → IsAsked s env (Editing edit) (Whole t) (Commits ask txn)
         → (editor_command t ≡ Ok CloseEdit) × (finished edit.editor ≡ Ok txn)
         × (ask.author ≡ edit.client.user) × (ask.tokens ≡ edit.asked.tokens) }
-    ensures release { (env : Env) (edit : MachineEdit) (t : ItemValue) (user : Option (List ℕ)) (tokens : HandedTokens)
-        → IsAsked env (Editing edit) (Whole t) (Releases user tokens)
+    ensures release { (s : Settings) (env : Env) (edit : MachineEdit) (t : ItemValue) (user : Option (List ℕ)) (tokens : HandedTokens)
+        → IsAsked s env (Editing edit) (Whole t) (Releases user tokens)
         → (user ≡ edit.client.user) × (tokens ≡ edit.asked.tokens) }
-    ensures property { (env : Env) (client : Client) (t : ItemValue) (ask : PropertyAsk)
-        → IsAsked env (Serving client) (Whole t) (ChangesProperty ask)
+    ensures property { (s : Settings) (env : Env) (client : Client) (t : ItemValue) (ask : PropertyAsk)
+        → IsAsked s env (Serving client) (Whole t) (ChangesProperty ask)
         → main_command t ≡ Ok (ChangeRevProp ask) }
-    ensures within_edit { (env : Env) (edit : MachineEdit) (t : ItemValue) (ask : PropertyAsk)
-        → IsAsked env (Editing edit) (Whole t) (ChangesProperty ask) → ⊥ }
+    ensures within_edit { (s : Settings) (env : Env) (edit : MachineEdit) (t : ItemValue) (ask : PropertyAsk)
+        → IsAsked s env (Editing edit) (Whole t) (ChangesProperty ask) → ⊥ }
 {}
 
 /// Shows that, whatever happens, and whatever calls come, the repository has gone on by the changes that were asked

@@ -86,16 +86,16 @@ acts_input old env n None input told new after found h =
 acts_input old env n (Some s) input told new after found (a, step, is_told, left, failures, counts, is) =
     let d = does old.halted old.settings env old.content s.phase input a step in
     let es = a.effect.changes in
-    let asked : (e : Accepted) → IsAsked env s.phase input e → IsAskedAt old env (Hears n input) e =
-    λ e one. subst (λ (x : Option SessionState). IsAskedIn env x input e) (sym found) one in
+    let asked : (e : Accepted) → IsAsked old.settings env s.phase input e → IsAskedAt old env (Hears n input) e =
+    λ e one. subst (λ (x : Option SessionState). IsAskedIn old.settings env x input e) (sym found) one in
     let content : new.content ≡ content_after old.content a.effect = ap (λ (x : HubState). x.content) is in
     let halted : new.halted ≡ (old.halted || is_halt a.effect.store) = ap (λ (x : HubState). x.halted) is in
     let pending : new.pending ≡ pending_by old.pending a.effect.store = ap (λ (x : HubState). x.pending) is in
     let halt = subst (λ (c : RepoState). Halts (IsAskedAt old env (Hears n input)) old.halted c a.effect.store) (sym content)
-    (halts_as (IsAsked env s.phase input) (IsAskedAt old env (Hears n input)) old.halted (content_after old.content a.effect) a.effect.store asked d.halt) in
+    (halts_as (IsAsked old.settings env s.phase input) (IsAskedAt old env (Hears n input)) old.halted (content_after old.content a.effect) a.effect.store asked d.halt) in
     record {
       changes = es;
-      own = all_on (IsAsked env s.phase input) (IsAskedAt old env (Hears n input)) es asked d.own;
+      own = all_on (IsAsked old.settings env s.phase input) (IsAskedAt old env (Hears n input)) es asked d.own;
       on = record { accepted = d.accepted; is = content };
       failed = fails_by a.effect.store;
       counted = counted_by a.effect.store old new
@@ -113,14 +113,14 @@ acts_leaving : (old : HubState) (env : Env) (n : ℕ) (o : Option SessionState) 
     → session_of old.sessions n ≡ o → CommitLeaves old env n o input told new after → Acts old env (Leaves n input) told new after
 acts_leaving old env n None input told new after found h = absurd h
 acts_leaving old env n (Some s) input told new after found (a, step, is_told, left, failures, counts, is) =
-    let (ask, t, running, asked, accepted, wanted, same) = leaves old.halted env old.content s.phase input a step in
+    let (ask, t, running, asked, accepted, wanted, same) = leaves old.halted old.settings env old.content s.phase input a step in
     let none : told ≡ [] = is_told ∙ ap (λ (x : Answer). x.replies) same in
     let content : new.content ≡ changed_all old.content (Commits ask t ∷ []) = ap (λ (x : HubState). x.content) is ∙ ap (λ (x : Answer). content_after old.content x.effect) same in
     let halted : new.halted ≡ (old.halted || false) = ap (λ (x : HubState). x.halted) is ∙ ap (λ (x : Answer). old.halted || is_halt x.effect.store) same in
     let pending : new.pending ≡ old.pending = ap (λ (x : HubState). x.pending) is ∙ ap (λ (x : Answer). pending_by old.pending x.effect.store) same in
     record {
       changes = Commits ask t ∷ [];
-      own = (subst (λ (x : Option SessionState). IsAskedIn env x input (Commits ask t)) (sym found) asked, tt);
+      own = (subst (λ (x : Option SessionState). IsAskedIn old.settings env x input (Commits ask t)) (sym found) asked, tt);
       on = record { accepted = (accepted, tt); is = content };
       failed = false;
       counted = (

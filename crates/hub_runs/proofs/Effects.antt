@@ -343,9 +343,9 @@ does_known false halted s env c client command a step =
     (own halted s env c client command) step
 
 does_main : (halted : Bool) (s : Settings) (env : Env) (c : RepoState) (client : Client) (t : ItemValue) (r : Result MainCommand CommandFault) (a : Answer)
-    → main_command t ≡ r → MainStep s env client r halted c a → Does (IsAsked env (Serving client) (Whole t)) s.revprops halted env c a
+    → main_command t ≡ r → MainStep s env client r halted c a → Does (IsAsked s env (Serving client) (Whole t)) s.revprops halted env c a
 does_main halted s env c client t (Ok command) a named step =
-    does_as (IsAskedBy env client command) (IsAsked env (Serving client) (Whole t)) a (λ e one. (command, named, one))
+    does_as (IsAskedBy env client command) (IsAsked s env (Serving client) (Whole t)) a (λ e one. (command, named, one))
     (does_known (wants_user s client command) halted s env c client command a step)
 does_main halted s env c client t (Err UnknownName) a named is = quiet a _ is (refl, refl, refl)
 does_main halted s env c client t (Err BadParameters) a named is = quiet a _ is (refl, refl, refl)
@@ -373,12 +373,12 @@ does_login halted s env c login (Ok r) a step = does_choice halted s env c login
 does_login halted s env c login (Err fault) a is = quiet a _ is (refl, refl, refl)
 
 does_challenge : (halted : Bool) (s : Settings) (env : Env) (c : RepoState) (pending : OpenChallenge) (t : ItemValue) (text : Option (List ℕ)) (a : Answer)
-    → ChallengeStep s env pending text halted c a → Does (IsAsked env (Challenged pending) (Whole t)) s.revprops halted env c a
-does_challenge halted s env c pending t None a is = quiet a _ is (refl, refl, refl)
-does_challenge halted s env c pending t (Some text) a (None, whose, is) = quiet a _ is (refl, refl, refl)
-does_challenge halted s env c pending t (Some text) a (Some name, whose, step) =
+    → challenge_answer t ≡ text → ChallengeStep s env pending text halted c a → Does (IsAsked s env (Challenged pending) (Whole t)) s.revprops halted env c a
+does_challenge halted s env c pending t None a named is = quiet a _ is (refl, refl, refl)
+does_challenge halted s env c pending t (Some text) a named (None, whose, is) = quiet a _ is (refl, refl, refl)
+does_challenge halted s env c pending t (Some text) a named (Some name, whose, step) =
     let client = with_user pending.login.client name in
-    does_as (IsWaiting env client pending.login.waiting) (IsAsked env (Challenged pending) (Whole t)) a (λ e one. (name, one))
+    does_as (IsWaiting env client pending.login.waiting) (IsAsked s env (Challenged pending) (Whole t)) a (λ e one. (text, named, name, whose, one))
     (does_logged_in halted s env c client pending.login.waiting a step)
 
 -- ---- a commit
@@ -480,50 +480,50 @@ does_edit : {P : Accepted → Type 0} {may halted : Bool} (env : Env) (c : RepoS
 does_edit env c edit command None a (after, applies, is) = quiet a _ is (refl, refl, refl)
 does_edit env c edit command (Some r) a is = quiet a _ is (refl, refl, refl)
 
-abbrev InEdit : Bool → Bool → Env → RepoState → MachineEdit → ItemValue → Answer → Type 0
-InEdit may halted env c edit t a = Does (IsAsked env (Editing edit) (Whole t)) may halted env c a
+abbrev InEdit : Settings → Bool → Bool → Env → RepoState → MachineEdit → ItemValue → Answer → Type 0
+InEdit s may halted env c edit t a = Does (IsAsked s env (Editing edit) (Whole t)) may halted env c a
 
-closes : {may halted : Bool} (env : Env) (c : RepoState) (edit : MachineEdit) (t : ItemValue) (a : Answer) → editor_command t ≡ Ok edits.CloseEdit
-    → Does (IsOfEdit env edit) may halted env c a → InEdit may halted env c edit t a
-closes env c edit t a named d = does_as (IsOfEdit env edit) (IsAsked env (Editing edit) (Whole t)) a (λ e one. (named, one)) d
+closes : {may halted : Bool} (s : Settings) (env : Env) (c : RepoState) (edit : MachineEdit) (t : ItemValue) (a : Answer) → editor_command t ≡ Ok edits.CloseEdit
+    → Does (IsOfEdit env edit) may halted env c a → InEdit s may halted env c edit t a
+closes s env c edit t a named d = does_as (IsOfEdit env edit) (IsAsked s env (Editing edit) (Whole t)) a (λ e one. (named, one)) d
 
-does_command : {may : Bool} (halted : Bool) (env : Env) (c : RepoState) (edit : MachineEdit) (t : ItemValue) (command : EditorCommand) (a : Answer)
-    → editor_command t ≡ Ok command → CommandStep env edit command (ending_of command) halted c a → InEdit may halted env c edit t a
-does_command halted env c edit t (edits.TargetRevision revision) a named step = does_edit env c edit (edits.TargetRevision revision) _ a step
-does_command halted env c edit t (edits.OpenRoot revision token) a named step = does_edit env c edit (edits.OpenRoot revision token) _ a step
-does_command halted env c edit t (edits.DeleteEntry entry) a named step = does_edit env c edit (edits.DeleteEntry entry) _ a step
-does_command halted env c edit t (edits.AddDirectory entry) a named step = does_edit env c edit (edits.AddDirectory entry) _ a step
-does_command halted env c edit t (edits.AddFile entry) a named step = does_edit env c edit (edits.AddFile entry) _ a step
-does_command halted env c edit t (edits.OpenDirectory entry) a named step = does_edit env c edit (edits.OpenDirectory entry) _ a step
-does_command halted env c edit t (edits.OpenFile entry) a named step = does_edit env c edit (edits.OpenFile entry) _ a step
-does_command halted env c edit t (edits.AbsentDirectory entry) a named step = does_edit env c edit (edits.AbsentDirectory entry) _ a step
-does_command halted env c edit t (edits.AbsentFile entry) a named step = does_edit env c edit (edits.AbsentFile entry) _ a step
-does_command halted env c edit t (edits.ChangeDirectoryProperty change) a named step = does_edit env c edit (edits.ChangeDirectoryProperty change) _ a step
-does_command halted env c edit t (edits.ChangeFileProperty change) a named step = does_edit env c edit (edits.ChangeFileProperty change) _ a step
-does_command halted env c edit t (edits.ApplyTextDelta token checksum) a named step = does_edit env c edit (edits.ApplyTextDelta token checksum) _ a step
-does_command halted env c edit t (edits.TextDeltaChunk token bytes) a named step = does_edit env c edit (edits.TextDeltaChunk token bytes) _ a step
-does_command halted env c edit t (edits.TextDeltaEnd token) a named step = does_edit env c edit (edits.TextDeltaEnd token) _ a step
-does_command halted env c edit t (edits.CloseDirectory token) a named step = does_edit env c edit (edits.CloseDirectory token) _ a step
-does_command halted env c edit t (edits.CloseFile token checksum) a named step = does_edit env c edit (edits.CloseFile token checksum) _ a step
-does_command halted env c edit t edits.CloseEdit a named step = closes env c edit t a named (does_close halted env c edit (finished edit.editor) a refl step)
-does_command halted env c edit t edits.AbortEdit a named is = quiet a _ is (refl, refl, refl)
+does_command : {may : Bool} (halted : Bool) (s : Settings) (env : Env) (c : RepoState) (edit : MachineEdit) (t : ItemValue) (command : EditorCommand) (a : Answer)
+    → editor_command t ≡ Ok command → CommandStep env edit command (ending_of command) halted c a → InEdit s may halted env c edit t a
+does_command halted s env c edit t (edits.TargetRevision revision) a named step = does_edit env c edit (edits.TargetRevision revision) _ a step
+does_command halted s env c edit t (edits.OpenRoot revision token) a named step = does_edit env c edit (edits.OpenRoot revision token) _ a step
+does_command halted s env c edit t (edits.DeleteEntry entry) a named step = does_edit env c edit (edits.DeleteEntry entry) _ a step
+does_command halted s env c edit t (edits.AddDirectory entry) a named step = does_edit env c edit (edits.AddDirectory entry) _ a step
+does_command halted s env c edit t (edits.AddFile entry) a named step = does_edit env c edit (edits.AddFile entry) _ a step
+does_command halted s env c edit t (edits.OpenDirectory entry) a named step = does_edit env c edit (edits.OpenDirectory entry) _ a step
+does_command halted s env c edit t (edits.OpenFile entry) a named step = does_edit env c edit (edits.OpenFile entry) _ a step
+does_command halted s env c edit t (edits.AbsentDirectory entry) a named step = does_edit env c edit (edits.AbsentDirectory entry) _ a step
+does_command halted s env c edit t (edits.AbsentFile entry) a named step = does_edit env c edit (edits.AbsentFile entry) _ a step
+does_command halted s env c edit t (edits.ChangeDirectoryProperty change) a named step = does_edit env c edit (edits.ChangeDirectoryProperty change) _ a step
+does_command halted s env c edit t (edits.ChangeFileProperty change) a named step = does_edit env c edit (edits.ChangeFileProperty change) _ a step
+does_command halted s env c edit t (edits.ApplyTextDelta token checksum) a named step = does_edit env c edit (edits.ApplyTextDelta token checksum) _ a step
+does_command halted s env c edit t (edits.TextDeltaChunk token bytes) a named step = does_edit env c edit (edits.TextDeltaChunk token bytes) _ a step
+does_command halted s env c edit t (edits.TextDeltaEnd token) a named step = does_edit env c edit (edits.TextDeltaEnd token) _ a step
+does_command halted s env c edit t (edits.CloseDirectory token) a named step = does_edit env c edit (edits.CloseDirectory token) _ a step
+does_command halted s env c edit t (edits.CloseFile token checksum) a named step = does_edit env c edit (edits.CloseFile token checksum) _ a step
+does_command halted s env c edit t edits.CloseEdit a named step = closes s env c edit t a named (does_close halted env c edit (finished edit.editor) a refl step)
+does_command halted s env c edit t edits.AbortEdit a named is = quiet a _ is (refl, refl, refl)
 
-does_editing : {may : Bool} (halted : Bool) (env : Env) (c : RepoState) (edit : MachineEdit) (t : ItemValue) (r : Result EditorCommand CommandFault) (a : Answer)
-    → editor_command t ≡ r → EditingStep env edit r halted c a → InEdit may halted env c edit t a
-does_editing halted env c edit t (Ok command) a named step = does_command halted env c edit t command a named step
-does_editing halted env c edit t (Err UnknownName) a named is = quiet a _ is (refl, refl, refl)
-does_editing halted env c edit t (Err BadParameters) a named is = quiet a _ is (refl, refl, refl)
-does_editing halted env c edit t (Err NoMemory) a named is = quiet a _ is (refl, refl, refl)
+does_editing : {may : Bool} (halted : Bool) (s : Settings) (env : Env) (c : RepoState) (edit : MachineEdit) (t : ItemValue) (r : Result EditorCommand CommandFault) (a : Answer)
+    → editor_command t ≡ r → EditingStep env edit r halted c a → InEdit s may halted env c edit t a
+does_editing halted s env c edit t (Ok command) a named step = does_command halted s env c edit t command a named step
+does_editing halted s env c edit t (Err UnknownName) a named is = quiet a _ is (refl, refl, refl)
+does_editing halted s env c edit t (Err BadParameters) a named is = quiet a _ is (refl, refl, refl)
+does_editing halted s env c edit t (Err NoMemory) a named is = quiet a _ is (refl, refl, refl)
 
 -- ---- an input
 
 pub does : (halted : Bool) (s : Settings) (env : Env) (c : RepoState) (phase : Stage) (input : Input) (a : Answer) → InputStep s env phase input halted c a
-    → Does (IsAsked env phase input) s.revprops halted env c a
+    → Does (IsAsked s env phase input) s.revprops halted env c a
 does halted s env c Greeted (Whole t) a is = quiet a _ is (quiet_greeting s env (client_greeting t))
 does halted s env c (LoggingIn login) (Whole t) a step = does_login halted s env c login (auth_response t) a step
-does halted s env c (Challenged pending) (Whole t) a step = does_challenge halted s env c pending t (challenge_answer t) a step
+does halted s env c (Challenged pending) (Whole t) a step = does_challenge halted s env c pending t (challenge_answer t) a refl step
 does halted s env c (Serving client) (Whole t) a step = does_main halted s env c client t (main_command t) a refl step
-does halted s env c (Editing edit) (Whole t) a step = does_editing halted env c edit t (editor_command t) a refl step
+does halted s env c (Editing edit) (Whole t) a step = does_editing halted s env c edit t (editor_command t) a refl step
 does halted s env c (Skipping client) (Whole t) a is = quiet a _ is (quiet_skipping env client (ends_edit t))
 does halted s env c (Reporting reporting) (Whole t) a (d, step, is) = quiet a _ is (quiet_drawn env reporting.client d)
 does halted s env c (Driven client) (Whole t) a is = quiet a _ is (quiet_driven env client (client_answer t))
@@ -538,17 +538,17 @@ does halted s env c (Driven client) Broken a is = quiet a _ is (refl, refl, refl
 does halted s env c Ended input a is = quiet a _ is (refl, refl, refl)
 
 -- a commit whose session is gone before the release
-pub leaves : (halted : Bool) (env : Env) (c : RepoState) (phase : Stage) (input : Input) (a : Answer) → UnreleasedStep env phase input halted c a
-    → (ask : CommitAsk) × (t : TxnState) × (halted ≡ false) × IsAsked env phase input (Commits ask t) × (commit_refusal c ask t ≡ None) × (wants_release ask (committed c ask t) ≡ true)
+pub leaves : (halted : Bool) (s : Settings) (env : Env) (c : RepoState) (phase : Stage) (input : Input) (a : Answer) → UnreleasedStep env phase input halted c a
+    → (ask : CommitAsk) × (t : TxnState) × (halted ≡ false) × IsAsked s env phase input (Commits ask t) × (commit_refusal c ask t ≡ None) × (wants_release ask (committed c ask t) ≡ true)
     × (a ≡ unreleased_answer env ask t)
-leaves halted env c (Editing edit) (Whole t) a (named, u) =
+leaves halted s env c (Editing edit) (Whole t) a (named, u) =
     (commit_ask edit.client edit.asked u.date, u.txn, u.running, (named, (u.txn_is, u.date, u.is_date, refl)), u.accepted, u.wanted, u.is)
-leaves halted env c (Editing edit) Broken a step = absurd step
-leaves halted env c Greeted input a step = absurd step
-leaves halted env c (LoggingIn login) input a step = absurd step
-leaves halted env c (Challenged pending) input a step = absurd step
-leaves halted env c (Serving client) input a step = absurd step
-leaves halted env c (Skipping client) input a step = absurd step
-leaves halted env c (Reporting reporting) input a step = absurd step
-leaves halted env c (Driven client) input a step = absurd step
-leaves halted env c Ended input a step = absurd step
+leaves halted s env c (Editing edit) Broken a step = absurd step
+leaves halted s env c Greeted input a step = absurd step
+leaves halted s env c (LoggingIn login) input a step = absurd step
+leaves halted s env c (Challenged pending) input a step = absurd step
+leaves halted s env c (Serving client) input a step = absurd step
+leaves halted s env c (Skipping client) input a step = absurd step
+leaves halted s env c (Reporting reporting) input a step = absurd step
+leaves halted s env c (Driven client) input a step = absurd step
+leaves halted s env c Ended input a step = absurd step

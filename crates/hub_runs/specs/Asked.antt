@@ -3,13 +3,15 @@ use Rattle.std.specs.Prelude.{◌≡◌, ℕ, List, [], ◌∷◌, Option, Some,
 use Rattle.svnpath.specs.{Paths.PathValue, Texts.joined}
 use Rattle.dates.specs.Dates.{IsDateText}
 use Rattle.repo_api.specs.{Accepted.Accepted, Accepted.Accepted.{ChangesProperty, Commits, Locks, Releases, Unlocks}}
-use Rattle.commands.specs.{Commands.main_command, declared.command.MainCommand.MainCommand}
+use Rattle.cram.specs.Answer.{IsAnswerOf}
+use Rattle.commands.specs.{Commands.main_command, Logins.challenge_answer, declared.command.MainCommand.MainCommand}
 use Rattle.commands.specs.{declared.command.MainCommand.TheVariants.{Lock, Unlock, ChangeRevProp}, declared.command.LockCommand.LockCommand}
 use Rattle.commands.specs.declared.command.UnlockCommand.{UnlockCommand}
 use Rattle.wire_edits.specs.{Editing.editor_command, declared.editing.EditorCommand.TheVariants.CloseEdit}
 use Rattle.edit_rules.specs.Editor.{finished}
-use Rattle.machine.specs.{Commands.{lock_ask, unlock_ask}, Hearing.Input, Hearing.Input.{Broken, Whole}, Logins.with_user, Machine.{commit_ask, MachineEdit}}
-use Rattle.machine.specs.{Stages.{SessionState, Stage}, declared.env.Env.Env, declared.phase.Client.Client}
+use Rattle.machine.specs.{Commands.{lock_ask, unlock_ask}, Hearing.Input, Hearing.Input.{Broken, Whole}}
+use Rattle.machine.specs.{Logins.{logins_or_none, with_user}, Machine.{commit_ask, MachineEdit}}
+use Rattle.machine.specs.{Settings.Settings, Stages.{SessionState, Stage}, declared.env.Env.Env, declared.phase.Client.Client}
 use Rattle.machine.specs.declared.phase.Phase.TheVariants.{Greeted, LoggingIn, Challenged, Serving, Editing, Skipping, Reporting, Driven, Ended}
 use Rattle.hub_runs.specs.{State.{HubState, session_of}, Runs.Event, Runs.Event.{Connects, HandsIn, Hears, Leaves, Drops}}
 
@@ -45,32 +47,34 @@ IsWaiting env client waiting e =
     (command : MainCommand) × (waiting ≡ Some command) × IsAskedBy env client command e
 
 -- the change is what a session asks for, where it stands so, by this input: by the command that it
--- reads, by the one that waits for a login, or by the end of its edit
-abbrev pub IsAsked : Env → Stage → Input → Accepted → Type 0
-IsAsked env (Serving client) (Whole t) e =
+-- reads, by the one that waits for a login, where this is a user's right answer, or by the end of its edit
+abbrev pub IsAsked : Settings → Env → Stage → Input → Accepted → Type 0
+IsAsked s env (Serving client) (Whole t) e =
     (command : MainCommand) × (main_command t ≡ Ok command) × IsAskedBy env client command e
-IsAsked env (LoggingIn login) (Whole t) e = IsWaiting env login.client login.waiting e
-IsAsked env (Challenged pending) (Whole t) e =
-    (name : List ℕ) × IsWaiting env (with_user pending.login.client name) pending.login.waiting e
-IsAsked env (Editing edit) (Whole t) e = (editor_command t ≡ Ok CloseEdit) × IsOfEdit env edit e
-IsAsked env Greeted (Whole t) e = ⊥
-IsAsked env (Skipping client) (Whole t) e = ⊥
-IsAsked env (Reporting reporting) (Whole t) e = ⊥
-IsAsked env (Driven client) (Whole t) e = ⊥
-IsAsked env Ended (Whole t) e = ⊥
-IsAsked env phase Broken e = ⊥
+IsAsked s env (LoggingIn login) (Whole t) e = IsWaiting env login.client login.waiting e
+IsAsked s env (Challenged pending) (Whole t) e =
+    (text : List ℕ) × (challenge_answer t ≡ Some text) × (name : List ℕ)
+    × IsAnswerOf pending.challenge (logins_or_none s.users) text (Some name)
+    × IsWaiting env (with_user pending.login.client name) pending.login.waiting e
+IsAsked s env (Editing edit) (Whole t) e = (editor_command t ≡ Ok CloseEdit) × IsOfEdit env edit e
+IsAsked s env Greeted (Whole t) e = ⊥
+IsAsked s env (Skipping client) (Whole t) e = ⊥
+IsAsked s env (Reporting reporting) (Whole t) e = ⊥
+IsAsked s env (Driven client) (Whole t) e = ⊥
+IsAsked s env Ended (Whole t) e = ⊥
+IsAsked s env phase Broken e = ⊥
 
 -- an open session asks for it; one that has ended asks for nothing
-abbrev pub IsAskedIn : Env → Option SessionState → Input → Accepted → Type 0
-IsAskedIn env None input e = ⊥
-IsAskedIn env (Some s) input e = IsAsked env s.phase input e
+abbrev pub IsAskedIn : Settings → Env → Option SessionState → Input → Accepted → Type 0
+IsAskedIn settings env None input e = ⊥
+IsAskedIn settings env (Some s) input e = IsAsked settings env s.phase input e
 
 -- by an event its session asks for the change
 abbrev pub IsAskedAt : HubState → Env → Event → Accepted → Type 0
 IsAskedAt old env (Connects n) e = ⊥
 IsAskedAt old env (HandsIn words) e = ⊥
-IsAskedAt old env (Hears n input) e = IsAskedIn env (session_of old.sessions n) input e
-IsAskedAt old env (Leaves n input) e = IsAskedIn env (session_of old.sessions n) input e
+IsAskedAt old env (Hears n input) e = IsAskedIn old.settings env (session_of old.sessions n) input e
+IsAskedAt old env (Leaves n input) e = IsAskedIn old.settings env (session_of old.sessions n) input e
 IsAskedAt old env (Drops n) e = ⊥
 
 -- it is so of each of the changes

@@ -11,7 +11,7 @@ use Rattle.wire_edits.specs.declared.editing.EditorCommand.TheVariants.{AbsentFi
 use Rattle.wire_edits.specs.declared.editing.EditorCommand.TheVariants.{TextDeltaEnd, CloseDirectory, CloseFile, CloseEdit, AbortEdit}
 use Rattle.wire_forms.specs.{declared.fault.CommandFault.CommandFault, declared.fault.CommandFault.TheVariants.{UnknownName, BadParameters, NoMemory}}
 use Rattle.edit_rules.specs.{Editor.{Applies, Edits as EditsTxn, finished, RestsIn, RestsOn}, Edits.EditState, Refusing.edit_refusal, Tokens.Tokens}
-use Rattle.access.specs.Points.{AccessRules, content_of, Point}
+use Rattle.access.specs.{Changing.unchanged_content, Points.{AccessRules, content_of, Point}}
 use Rattle.machine.specs.{Settings.Settings, Stages.{Stage, EditRests, StandsOn}, Soundness.MeetBy, Hearing.Input, Hearing.Input.{Whole, Broken}}
 use Rattle.machine.specs.{Answers.{Verdict, Effect, Answer, Step, content_after}, Machine.{InputStep, UnreleasedStep, MachineEdit, JudgedEdit, CommitStep}}
 use Rattle.machine.specs.Machine.{CloseStep, CommandStep, EditingStep, ending_of, commit_ask, release_fails, CommittedStep}
@@ -195,8 +195,8 @@ module _ (rules : AccessRules)
 
   stored : (v : Verdict) (p q : Point) → Stores v p q → content_of q ≡ content_of p
   stored Written p q is = ap content_of is
-  stored NotWritten p q failed = failed.same
-  stored (Unknown e) p q halt = halt.same
+  stored NotWritten p q failed = unchanged_content p q failed.same
+  stored (Unknown e) p q halt = unchanged_content p q halt.same
 
   pub moved : (p : Point) (e : Effect) (q : Point) → EffectAt rules p e q → content_of q ≡ content_after (content_of p) e
   moved p e q (mid, adds, stores) = stored e.store mid q stores ∙ added p e.changes mid adds

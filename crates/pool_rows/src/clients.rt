@@ -83,7 +83,7 @@ const CLOSE: &[u8] = b"( add-dir ( 8:branches 2:d0 2:d1 ( ) ) ) ( close-dir ( 2:
 const SECOND: &[u8] = b"( success ( ) ) ( success ( ( ) 0: ) ) ( 2 ( 27:";
 
 /// Connects a client. It waits for 20 seconds at most.
-fn come<R: Abort + Net<Stream = TcpStream>>(rt: &R, address: SocketAddr) -> TcpStream {
+pub(crate) fn come<R: Abort + Net<Stream = TcpStream>>(rt: &R, address: SocketAddr) -> TcpStream {
     let stream = TcpStream::connect(rt, address).expect(rt, "a connection");
     let patience = Some(Duration::from_secs(20));
     stream.set_read_timeout(patience).expect(rt, "a limit");
@@ -91,12 +91,12 @@ fn come<R: Abort + Net<Stream = TcpStream>>(rt: &R, address: SocketAddr) -> TcpS
 }
 
 /// Sends a client's words.
-fn send(rt: &impl Abort, stream: &mut TcpStream, words: &[u8]) {
+pub(crate) fn send(rt: &impl Abort, stream: &mut TcpStream, words: &[u8]) {
     stream.write_all(words).expect(rt, "a write");
 }
 
 /// Reads what a client is sent next, which is to be this.
-fn hear(rt: &impl Abort, stream: &mut TcpStream, words: &[u8]) {
+pub(crate) fn hear(rt: &impl Abort, stream: &mut TcpStream, words: &[u8]) {
     let mut told = [0; 256];
     let told = &mut told[..words.len().min(256)];
     stream.read_exact(told).expect(rt, "a reply");
@@ -171,6 +171,24 @@ fn come_all<R: Abort + Net<Stream = TcpStream>>(
     }
 }
 
+/// Serves so many clients on an empty repository, and answers once all have gone.
+pub(crate) fn serve_with<J, R>(
+    server: &Server<'_, R>,
+    listener: &TcpListener,
+    count: usize,
+    history: NewHistory,
+)
+where
+    J: Naming + Send + Sync + 'static,
+    R: Abort + Clock + Eprint + Print + RandomSource + Threads + Wait + Sync,
+    requires { history.seen.book ≡ J.book }
+{
+    let (rt, alloc) = (server.rt, server.alloc);
+    let stored = empty_repository(rt, alloc);
+    let desks = desks_at::<R, FiledWorld, MemoryStore, J>(rt, alloc, stored, history);
+    serve_connections(server, listener, count, desks).expect(rt, "all threads");
+}
+
 /// Serves these clients on an empty repository, and answers once all have gone.
 fn serve<J, R>(rt: &R, alloc: Global, listener: &TcpListener, clients: Clients, history: NewHistory)
 where
@@ -183,16 +201,15 @@ where
         address: SocketAddrV4::new(Ipv4Addr::LOCALHOST, 0),
         per_address: clients.per_address(),
         is_exposed: false,
+        is_writable: false,
         is_quiet: true,
     };
-    let stored = empty_repository(rt, alloc);
-    let desks = desks_at::<R, FiledWorld, MemoryStore, J>(rt, alloc, stored, history);
     let server = Server {
         rt,
         alloc,
         settings: &settings,
     };
-    serve_connections(&server, listener, clients.count(), desks).expect(rt, "all threads");
+    serve_with::<J, R>(&server, listener, clients.count(), history);
 }
 
 /// Has clients come to a server of their own. A client that is sent something else ends the process.

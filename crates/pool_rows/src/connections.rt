@@ -1,6 +1,7 @@
 //! Connections in memory, and what stands at their other end.
 use conversations::{Env, EnvSource};
 use crossbeam_channel::{Receiver, Sender, unbounded};
+use presence::Connection;
 use session_pool::Caller;
 use std::alloc::Global;
 use std::io;
@@ -148,7 +149,7 @@ fn stands_in(text: &[u8], part: &[u8]) -> bool {
 }
 
 /// A caller over a connection in memory.
-pub(crate) type MemoryCaller<'a, R> = Caller<Sent<'a, R>, Told<'a, R>>;
+pub(crate) type MemoryCaller<'a, R> = Caller<Sent<'a, R>, Told<'a, R>, Connection>;
 
 /// What a caller sends, piece by piece and then no more; the client that is told; and how many bytes it takes.
 #[derive(Clone, Copy)]
@@ -179,6 +180,7 @@ fn caller_of<'a, R: Abort + Wait>(
             client: call.client,
             room: call.room,
         },
+        client: None,
     }
 }
 

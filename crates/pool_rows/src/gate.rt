@@ -1,6 +1,7 @@
 //! A session is served while another waits.
 ghost use Rattle.std.specs.Prelude.{◌≡◌, All};
 ghost use Rattle.access.specs.Points.{content_of};
+ghost use Rattle.published.specs.Events.{point_of};
 ghost use Rattle.repo_api.specs.Soundness.{AreSound};
 
 use crate::connections::{AT_ZERO, Call, Client, LOGIN, MemoryCaller, NEVER, WELCOME, callers};
@@ -87,10 +88,10 @@ where
     S: Store,
     J: Naming,
     G: Gate,
-    requires { AreSound (content_of desk.seat).revisions }
+    requires { AreSound (content_of (point_of desk.seat)).revisions }
 {
     let (access, _) = desk.into_parts();
-    pool.work(rt, alloc, &*callers, (access, AT_ZERO))
+    pool.serve_at(rt, alloc, &*callers, (access, AT_ZERO));
 }
 
 /// Serves callers in threads, one for each desk, until no more can come.
@@ -105,18 +106,18 @@ where
     J: Naming + Send + Sync + 'static,
     G: Gate + Sync,
     R: Abort + Clock + RandomSource + Threads + Wait + Sync,
-    requires { All (λ d. AreSound (content_of d.seat).revisions) desks.items }
+    requires { All (λ d. AreSound (content_of (point_of d.seat)).revisions) desks.items }
 {
     thread::scope(
         thread::scope_env(),
         rt,
         move |scope|
-            requires { All (λ d. AreSound (content_of d.seat).revisions) desks.items }
+            requires { All (λ d. AreSound (content_of (point_of d.seat)).revisions) desks.items }
         {
             for desk in desks {
                 let worker = scope.spawn(
                     move ||
-                        requires { AreSound (content_of desk.seat).revisions }
+                        requires { AreSound (content_of (point_of desk.seat)).revisions }
                     { work_still(rt, alloc, pool, callers, desk) },
                 );
                 assert!(rt; worker.is_ok());

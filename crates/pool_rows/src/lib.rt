@@ -10,6 +10,10 @@ mod failing;
 #[cfg(test)]
 mod gate;
 #[cfg(test)]
+mod handed_in;
+#[cfg(test)]
+mod logging_in;
+#[cfg(test)]
 mod repositories;
 #[cfg(test)]
 mod settings;

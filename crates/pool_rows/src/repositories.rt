@@ -1,6 +1,7 @@
 //! An empty repository, alone and shared.
 ghost use Rattle.std.specs.Prelude.{◌≡◌, All};
 ghost use Rattle.access.specs.Points.{content_of};
+ghost use Rattle.published.specs.Events.{point_of};
 ghost use Rattle.repo_api.specs.Soundness.{AreSound};
 
 use crate::connections::{MemoryCaller, Still};
@@ -55,7 +56,7 @@ pub(crate) fn work_alone<F: SoundTrees, S: Store, G: Gate, W: Watch, R: Wait>(
     (stored, envs): (StoredRepository<F, S>, Still),
 ) {
     stored.repository().trees_are_sound();
-    pool.work(rt, alloc, callers, (stored, envs));
+    pool.serve_at(rt, alloc, callers, (stored, envs));
 }
 
 /// Makes the desks of a repository that is shared, with what is shared.
@@ -71,7 +72,7 @@ where
     S: Store,
     J: Naming,
     requires { history.seen.book ≡ J.book }
-    ensures { All (λ d. AreSound (content_of d.seat).revisions) result.1.items }
+    ensures { All (λ d. AreSound (content_of (point_of d.seat)).revisions) result.1.items }
 {
     stored.repository().trees_are_sound();
     desks_of::<R, F, S, J>(rt, alloc, stored, history).expect(rt, "desks")

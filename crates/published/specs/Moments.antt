@@ -1,41 +1,43 @@
 -- Moments of a repository that others change too.
-use Rattle.std.specs.Prelude.{◌≡◌, ◌≤◌, ◌<◌, ℕ, Bool, true, ◌||◌, List, [], ◌∷◌, ◌++◌, length, Option}
-use Rattle.std.proofs.Common.{refl, sym, ap, subst, ◌∙◌, append-nil, append_assoc, le_refl, le_trans}
+use Rattle.std.specs.Prelude.{◌≡◌, ◌≤◌, ◌<◌, ℕ, Bool, true, false, List, [], ◌∷◌, ◌++◌, length, Some}
+use Rattle.std.proofs.Common.{refl, sym, ap, subst, ◌∙◌, append-nil, append_assoc, inl, inr, le_refl, le_trans, lt_of_le_of_lt, true≢false}
+use mathlib.Core.List.{IsPrefix}
 use Rattle.repo_api.specs.{Accepted.{Accepted, changed, changed_all}, Accepted.Accepted.{ChangesProperty, Commits, Locks, Releases, Unlocks}}
 use Rattle.repo_api.specs.{Soundness.AreSound, States.{IsBeginning, RepoState, Revision}}
-use Rattle.access.specs.Points.{AccessRules, content_of, Point}
-use Rattle.published.specs.{Changes.AreRight, Events.{Event, point_of}}
+use Rattle.access.specs.Points.{AccessRules, content_of, HasRisen, Point}
+use Rattle.published.specs.{Changes.{AreRight, IsRight}, Events.{Event, moment_of}}
 
--- changes were made in between, each of them right; and the store may have failed, or come to a halt
+-- others have gone on from the one to the other: they made changes, each of them right, and none was one's
+-- own. From a halt nobody goes on; and where changes have come to a halt in between, the store has failed,
+-- and a change is known that was right there
 pub record GoesOn (p q : Point) : Type 0 where
   pub first : q.first ≡ p.first
   pub more : List Accepted
   pub changes : q.changes ≡ p.changes ++ more
   pub right : AreRight (content_of p) more
-  pub halted : p.halted ≡ true → (q.halted ≡ true) × (q.pending ≡ p.pending)
+  pub own : q.own ≡ p.own
+  pub halted : p.halted ≡ true → q ≡ p
   pub failures : p.failures ≤ q.failures
+  pub halts : p.halted ≡ false → q.halted ≡ true → HasRisen p.failures q.failures
+      × ((e : Accepted) × (q.pending ≡ Some e) × IsRight (content_of q) e)
 
--- one list of events goes on as another
+-- one list of events goes on as another, for an author that has none of those between
 pub record ListGoesOn (xs ys : List Event) : Type 0 where
   pub begun : 0 < length ys
-  pub goes_on : (h k : Bool) (m n : ℕ) (a b : Option Accepted)
-      → (h ≡ true → (k ≡ true) × (b ≡ a)) → m ≤ n
-      → GoesOn (point_of xs h m a) (point_of ys k n b)
+  pub begins : IsPrefix xs ys
+  pub goes_on : (own : List Accepted) → GoesOn (moment_of xs own) (moment_of ys own)
 
--- the moment after one change more
+-- the moment after one change more, which is one's own
 abbrev pub added : Point → Accepted → Point
 added p e =
     record {
       first = p.first;
       changes = p.changes ++ e ∷ [];
+      own = p.own ++ e ∷ [];
       halted = p.halted;
       failures = p.failures;
       pending = p.pending;
     }
-
--- the same moment, where it may have been learned that changes have come to a halt
-abbrev pub knowing : Point → Bool → Point
-knowing p halted = record p { halted = p.halted || halted }
 
 -- others change it too
 abbrev pub shared_rules : AccessRules
@@ -65,9 +67,25 @@ stays p = record {
   more = [];
   changes = sym (append-nil p.changes);
   right = tt;
-  halted = λ h. (h, refl);
+  own = refl;
+  halted = λ h. refl;
   failures = le_refl p.failures;
+  halts = λ off on. absurd (true≢false (sym on ∙ off));
 }
+
+risen_through : (a b c : ℕ) → a ≤ b → HasRisen b c → HasRisen a c
+risen_through a b c le (inl less) = inl (lt_of_le_of_lt le less)
+risen_through a b c le (inr last) = inr last
+
+-- a halt by the way, or at the end of it
+halts_by : (p q r : Point) → GoesOn p q → GoesOn q r → (b : Bool) → q.halted ≡ b → p.halted ≡ false → r.halted ≡ true
+    → HasRisen p.failures r.failures × ((e : Accepted) × (r.pending ≡ Some e) × IsRight (content_of r) e)
+halts_by p q r a b true on off halted =
+    subst (λ (x : Point). HasRisen p.failures x.failures × ((e : Accepted) × (x.pending ≡ Some e) × IsRight (content_of x) e))
+    (sym (b.halted on)) (a.halts off on)
+halts_by p q r a b false running off halted =
+    let h = b.halts running halted in
+    (risen_through p.failures q.failures r.failures a.failures h.0, h.1)
 
 pub goes_on : (p q r : Point) → GoesOn p q → GoesOn q r → GoesOn p r
 goes_on p q r a b = record {
@@ -79,11 +97,10 @@ goes_on p q r a b = record {
   right =
       right_more (content_of p) a.more b.more a.right
       (subst (λ (c : RepoState). AreRight c b.more) (content_more p q a) b.right);
-  halted = λ h. (
-    (b.halted (a.halted h).0).0,
-    (b.halted (a.halted h).0).1 ∙ (a.halted h).1,
-  );
+  own = b.own ∙ a.own;
+  halted = λ h. b.halted (ap (λ (x : Point). x.halted) (a.halted h) ∙ h) ∙ a.halted h;
   failures = le_trans a.failures b.failures;
+  halts = halts_by p q r a b q.halted refl;
 }
 
 begins_itself : (rs : List Revision) → IsBeginning rs rs
@@ -131,7 +148,20 @@ sound p q g s =
 
 pub lasts : (p q : Point) → GoesOn p q
     → (p.halted ≡ true → (q.halted ≡ true) × (q.pending ≡ p.pending)) × (p.failures ≤ q.failures)
-lasts p q g = (g.halted, g.failures)
+lasts p q g = (
+  λ h. (
+    ap (λ (x : Point). x.halted) (g.halted h) ∙ h,
+    ap (λ (x : Point). x.pending) (g.halted h),
+  ),
+  g.failures,
+)
+
+-- none of the changes between is one's own, and a change of one's own is one more
+pub others : (p q : Point) → GoesOn p q → q.own ≡ p.own
+others p q g = g.own
+
+pub counted : (p : Point) (e : Accepted) (q : Point) → q ≡ added p e → q.own ≡ p.own ++ e ∷ []
+counted p e q is = ap (λ (x : Point). x.own) is
 
 pub content_added : (p : Point) (e : Accepted)
     → content_of (added p e) ≡ changed (content_of p) e

@@ -20,19 +20,26 @@ impl Model for Happened {
 
     ghost coded = { Prim.hlevel (map_code, codes) };
 
-    ghost view = { λ _. Makes (Releases None []) };
+    ghost view = { λ _. Makes 0 (Releases None []) };
+}
+
+/// A repository that is opened, as contracts see it, and how often its store has failed before.
+#[derive(Drop)]
+pub(crate) struct Opening<R> {
+    pub(crate) repository: Noted<R>,
+    pub(crate) failures: u64,
 }
 
 /// The opening of a repository.
-pub struct OpeningEvent;
+pub(crate) struct OpeningEvent;
 
-impl<R: Repository> Plain<R, Happened, u64> for OpeningEvent {
+impl<R: Repository> Plain<Opening<R>, Happened, u64> for OpeningEvent {
     ghost use Rattle.std.specs.Prelude.{None};
     ghost use Rattle.published.specs.Events.Event.{Opened};
 
-    ghost ask = { λ repository. Opened (R.content repository) };
+    ghost ask = { λ opening. Opened (R.content opening.repository.value) opening.failures };
 
-    ghost state = { λ repository. None };
+    ghost state = { λ opening. None };
 }
 
 /// A change that is being made, with what was asked, as contracts see it.
@@ -45,16 +52,47 @@ pub enum AskedChange<T: Drop> {
     Property(Noted<PropertyAsk>),
 }
 
+/// A change that was saved, and the number of its author.
+#[derive(Drop)]
+pub(crate) struct SavedChange<T: Drop> {
+    pub(crate) by: u64,
+    pub(crate) asked: AskedChange<T>,
+}
+
 /// A change.
-pub struct ChangeEvent<R: Repository> {
+pub(crate) struct ChangeEvent<R: Repository> {
     of: PhantomData<R>,
 }
 
-impl<R: Repository> Plain<AskedChange<R::Txn>, Happened, u64> for ChangeEvent<R> {
+impl<R: Repository> Plain<SavedChange<R::Txn>, Happened, u64> for ChangeEvent<R> {
     ghost use Rattle.std.specs.Prelude.{None};
     ghost use Rattle.published.specs.{Events.accepted_by, Events.Event.Makes};
 
-    ghost ask = { λ asked. Makes (accepted_by R.txn_state asked) };
+    ghost ask = { λ change. Makes change.by (accepted_by R.txn_state change.asked) };
 
-    ghost state = { λ asked. None };
+    ghost state = { λ change. None };
+}
+
+/// A change that was not saved, the number of its author, and what is known of the store since: whether changes have
+/// come to a halt, and how often it has failed.
+#[derive(Drop)]
+pub(crate) struct FailedChange<T: Drop> {
+    pub(crate) by: u64,
+    pub(crate) asked: AskedChange<T>,
+    pub(crate) halts: bool,
+    pub(crate) failures: u64,
+}
+
+/// A failure of the store.
+pub(crate) struct FailureEvent<R: Repository> {
+    of: PhantomData<R>,
+}
+
+impl<R: Repository> Plain<FailedChange<R::Txn>, Happened, u64> for FailureEvent<R> {
+    ghost use Rattle.std.specs.Prelude.{None};
+    ghost use Rattle.published.specs.{Events.accepted_by, Events.Event.Fails};
+
+    ghost ask = { λ change. Fails change.by (accepted_by R.txn_state change.asked) change.halts change.failures };
+
+    ghost state = { λ change. None };
 }

@@ -1,20 +1,20 @@
 //! What threads serve sessions at: the seats of a repository in files that they share.
 ghost use Rattle.std.specs.Prelude.{◌≡◌, All, IfOk};
 ghost use Rattle.access.specs.Points.{content_of};
+ghost use Rattle.published.specs.Events.{point_of};
 ghost use Rattle.repo_api.specs.Soundness.{AreSound};
+ghost use Rattle.session_pool.specs.Serving.{settings_of};
 
-use crate::accepting::{Client, Halts};
 use crate::envs::SystemEnvs;
 use crate::fault::ServingFault;
-use crate::journal::Journal;
-use conversations::OpenGate;
+use crate::settings::Server;
 use crossbeam_channel::Receiver;
+use entrance::{Client, Halts, Registry};
 use filed_archive::{FiledArchive, ServedRepo, ServedSeat, share};
 use published::{Naming, NewHistory, Published, Setting, Shown};
 use session_pool::{MAX_SESSIONS, SessionPool};
 use sharedrepo::SeatAccess;
 use std::alloc::Global;
-use std::io::Eprint;
 use std::random::RandomSource;
 use std::sync::{Arc, Wait};
 use std::time::Clock;
@@ -60,22 +60,22 @@ impl<'r, R: Clock + Wait, F: Filed, S: Store, J: Naming> Desk<'r, R, F, S, J> {
     }
 }
 
-/// Serves callers at a desk, one after another, until no more can come.
-pub fn work_at<R, F, S, J>(
-    rt: &R,
-    alloc: Global,
-    pool: &SessionPool<'_, OpenGate, Journal<'_, R>>,
-    callers: &Receiver<Client>,
+/// Serves callers at a desk, one after another, until no more can come, each by what the server serves them by.
+pub(crate) fn work_at<R, F, S, J>(
+    server: &Server<'_, R>,
+    pool: &SessionPool<'_, Registry<'_, R>, Registry<'_, R>>,
+    callers: &Receiver<Client<'_, R>>,
     desk: Desk<'_, R, F, S, J>,
 )
 where
-    R: Clock + Eprint + RandomSource + Wait,
+    R: Clock + RandomSource + Wait,
     F: Filed,
     S: Store,
     J: Naming,
-    requires { AreSound (content_of desk.seat).revisions }
+    requires options { settings_of pool.now ≡ server.now.settings.now.options }
+    requires sound { AreSound (content_of (point_of desk.seat)).revisions }
 {
-    pool.work(rt, alloc, callers, desk.into_parts())
+    pool.serve_at(server.rt, server.alloc, callers, desk.into_parts());
 }
 
 /// A repository in files that sessions share.
@@ -104,8 +104,8 @@ where
     F: Filed,
     S: Store,
     J: Naming,
-    requires { AreSound (content_of seat).revisions }
-    ensures { IfOk result (λ d. AreSound (content_of d.seat).revisions) }
+    requires { AreSound (content_of (point_of seat)).revisions }
+    ensures { IfOk result (λ d. AreSound (content_of (point_of d.seat)).revisions) }
 {
     let repository = Arc::try_clone(&shared.repository)?;
     let Ok(envs) = SystemEnvs::new(rt) else {
@@ -131,8 +131,8 @@ where
     F: Filed,
     S: Store,
     J: Naming,
-    requires { All (λ s. AreSound (content_of s).revisions) seats.items }
-    ensures { IfOk result (λ desks. All (λ d. AreSound (content_of d.seat).revisions) desks.items) }
+    requires { All (λ s. AreSound (content_of (point_of s)).revisions) seats.items }
+    ensures { IfOk result (λ desks. All (λ d. AreSound (content_of (point_of d.seat)).revisions) desks.items) }
 {
     let mut desks = Vec::new(alloc);
     for seat in seats {
@@ -159,7 +159,7 @@ where
     J: Naming,
     requires book { history.seen.book ≡ J.book }
     requires sound { AreSound (F.content stored.repository).revisions }
-    ensures { IfOk result (λ desks. All (λ d. AreSound (content_of d.seat).revisions)
+    ensures { IfOk result (λ desks. All (λ d. AreSound (content_of (point_of d.seat)).revisions)
         desks.1.items) }
 {
     let (repository, seats) = share::<F, S, J>(alloc, stored, MAX_SESSIONS as usize, history)?;

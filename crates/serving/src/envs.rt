@@ -1,30 +1,12 @@
 //! The system's clock, and random words.
-ghost use Rattle.std.specs.Prelude.{◌≤◌};
-ghost use Rattle.dates.specs.declared.TheConstants.{LAST_MOMENT};
 
 use conversations::{Env, EnvSource};
-use dates::LAST_MOMENT;
+use journals::moment_now;
 use rand::rngs::StdRng;
 use rand_core::Rng;
 use std::io;
 use std::random::RandomSource;
-use std::time::{Clock, SystemTime, UNIX_EPOCH};
-
-/// Gives the moment in microseconds since the beginning of 1970: 0 where the clock fails or shows an earlier time, and
-/// the last moment where it shows a later one.
-pub fn moment_now<C: Clock>(clock: &C) -> u64
-    ensures { result ≤ LAST_MOMENT }
-{
-    let Ok(now) = SystemTime::now(clock) else {
-        return 0;
-    };
-    let Ok(since) = now.duration_since(UNIX_EPOCH) else {
-        return 0;
-    };
-    u64::try_from(since.as_micros())
-        .unwrap_or(LAST_MOMENT)
-        .min(LAST_MOMENT)
-}
+use std::time::Clock;
 
 /// A clock, and words of a generator that began with the system's random bytes.
 #[derive(Drop)]

@@ -1,8 +1,8 @@
 //! What is told once the threads of a server have started.
 
 use crate::fault::ServingFault;
-use crate::journal::{Event, Journal};
 use crate::reason::Reason;
+use entrance::{Event, Registry};
 use std::io::{Eprint, Print};
 use std::net::TcpListener;
 use std::time::Clock;
@@ -10,7 +10,7 @@ use std::time::Clock;
 /// Tells whoever waits that a server has opened.
 pub(crate) trait Opening {
     /// Tells it once all threads have started, before the first connection is taken.
-    fn tell<R: Eprint + Clock>(&self, journal: &Journal<'_, R>) -> Result<(), ServingFault>;
+    fn tell<R: Eprint + Clock>(&self, registry: &Registry<'_, R>) -> Result<(), ServingFault>;
 }
 
 /// Tells nothing.
@@ -18,7 +18,7 @@ pub(crate) trait Opening {
 pub(crate) struct Silent;
 
 impl Opening for Silent {
-    fn tell<R: Eprint + Clock>(&self, _journal: &Journal<'_, R>) -> Result<(), ServingFault> {
+    fn tell<R: Eprint + Clock>(&self, _registry: &Registry<'_, R>) -> Result<(), ServingFault> {
         Ok(())
     }
 }
@@ -31,13 +31,23 @@ pub(crate) struct Aloud<'a, P> {
     pub(crate) too_few_files: Option<u64>,
 }
 
-impl<'a, P: Print> Opening for Aloud<'a, P> {
-    fn tell<R: Eprint + Clock>(&self, journal: &Journal<'_, R>) -> Result<(), ServingFault> {
-        if let Some(files) = self.too_few_files {
-            journal.tell(Event::FewFiles(files));
-        }
+impl<'a, P: Eprint> Aloud<'a, P> {
+    /// Tells where the server listens.
+    fn tell_address(&self) {
         if let Ok(address) = self.listener.local_addr() {
-            journal.listens(address);
+            // what standard error does not take is lost
+            let _ = eprint!(self.rt; "svnserved: listens at {address}\n");
+        }
+    }
+}
+
+impl<'a, P: Print + Eprint> Opening for Aloud<'a, P> {
+    fn tell<R: Eprint + Clock>(&self, registry: &Registry<'_, R>) -> Result<(), ServingFault> {
+        if let Some(files) = self.too_few_files {
+            registry.tell_first(Event::FewFiles(files));
+        }
+        if !registry.is_quiet() {
+            self.tell_address();
         }
         match println!(self.rt; "ready") {
             Ok(()) => Ok(()),

@@ -1,20 +1,19 @@
 //! Sessions over TCP: a thread for each, at one repository that they share.
-ghost use Rattle.std.specs.Prelude.{All};
+ghost use Rattle.std.specs.Prelude.{◌≡◌, All};
 ghost use Rattle.access.specs.Points.{content_of};
+ghost use Rattle.published.specs.Events.{point_of};
 ghost use Rattle.repo_api.specs.Soundness.{AreSound};
+ghost use Rattle.session_pool.specs.Serving.{settings_of};
 
-use crate::accepting::{Client, Entrance, take_all};
 use crate::desks::{Desk, Desks, SharedFiles, work_at};
 use crate::fault::ServingFault;
-use crate::journal::{Event, Journal};
-use crate::limits::too_few_files;
 use crate::opening::{Aloud, Opening, Silent};
 use crate::reason::Reason;
-use crate::settings::Settings;
-use conversations::OpenGate;
+use crate::settings::{Server, Settings};
 use crossbeam_channel::{Receiver, Sender, unbounded};
+use entrance::{Client, Entrance, Event, Registry, take_all, too_few_files};
 use filed_world::FiledWorld;
-use machine::Options;
+use journals::{Journal, Room, write_lines};
 use published::Naming;
 use session_pool::SessionPool;
 use std::alloc::Global;
@@ -31,13 +30,13 @@ use store_files::Store;
 
 /// Takes connections at an entrance of a repository in files: for any repository, since at a named one the checker
 /// reaches its limit of steps.
-fn take_at<R, F, S, J>(
-    entrance: &Entrance<'_, R, SharedFiles<F, S, J>>,
-    pool: &SessionPool<'_, OpenGate, Journal<'_, R>>,
-    callers: &Sender<Client>,
+fn take_at<'e, R, F, S, J>(
+    entrance: &'e Entrance<'e, R, SharedFiles<F, S, J>>,
+    pool: &SessionPool<'_, Registry<'_, R>, Registry<'_, R>>,
+    callers: &Sender<Client<'e, R>>,
 )
 where
-    R: Clock + Eprint + Wait,
+    R: Clock + Wait,
     F: Filed,
     S: Store,
     J: Naming,
@@ -47,18 +46,19 @@ where
 
 /// The way of connections to the threads that serve them, and what is told as it opens.
 #[derive(Drop)]
-struct Way<'a, O> {
-    sender: Sender<Client>,
-    callers: &'a Receiver<Client>,
+struct Way<'a, 'e, R, O> {
+    sender: Sender<Client<'e, R>>,
+    callers: &'a Receiver<Client<'e, R>>,
     opening: &'a O,
 }
 
 /// Starts a thread for each desk, tells that all have started, and takes connections. It answers once no more are to be taken
 /// and all sessions have ended, or where a thread cannot be started.
-fn run_pool<R, S, J, O>(
-    entrance: &Entrance<'_, R, SharedFiles<FiledWorld, S, J>>,
-    pool: &SessionPool<'_, OpenGate, Journal<'_, R>>,
-    way: Way<'_, O>,
+fn run_pool<'e, R, S, J, O>(
+    server: &Server<'_, R>,
+    entrance: &'e Entrance<'e, R, SharedFiles<FiledWorld, S, J>>,
+    pool: &SessionPool<'_, Registry<'_, R>, Registry<'_, R>>,
+    way: Way<'_, 'e, R, O>,
     desks: Vec<Desk<'_, R, FiledWorld, S, J>>,
 ) -> Result<(), ServingFault>
 where
@@ -66,9 +66,9 @@ where
     S: Store + Send + Sync + 'static,
     J: Naming + Send + Sync + 'static,
     O: Opening,
-    requires { All (λ d. AreSound (content_of d.seat).revisions) desks.items }
+    requires options { settings_of pool.now ≡ server.now.settings.now.options }
+    requires sound { All (λ d. AreSound (content_of (point_of d.seat)).revisions) desks.items }
 {
-    let (rt, alloc) = (entrance.rt, entrance.alloc);
     let Way {
         sender,
         callers,
@@ -76,21 +76,23 @@ where
     } = way;
     thread::scope(
         thread::scope_env(),
-        rt,
+        server.rt,
         move |scope| -> Result<(), ServingFault>
-            requires { All (λ d. AreSound (content_of d.seat).revisions) desks.items }
+            requires { (settings_of pool.now ≡ server.now.settings.now.options)
+                × All (λ d. AreSound (content_of (point_of d.seat)).revisions) desks.items }
         {
             for desk in desks {
                 let worker = scope.spawn(
                     move ||
-                        requires { AreSound (content_of desk.seat).revisions }
-                    { work_at(rt, alloc, pool, callers, desk) },
+                        requires { (settings_of pool.now ≡ server.now.settings.now.options)
+                            × AreSound (content_of (point_of desk.seat)).revisions }
+                    { work_at(server, pool, callers, desk) },
                 );
                 if worker.is_err() {
                     return Err(ServingFault::Thread);
                 }
             }
-            opening.tell(&entrance.journal)?;
+            opening.tell(&entrance.registry)?;
             take_at(entrance, pool, &sender);
             Ok(())
         },
@@ -98,9 +100,9 @@ where
 }
 
 /// Serves the connections that come in by an entrance, each at one of these desks.
-fn serve_desks<R, S, J, O>(
-    entrance: &Entrance<'_, R, SharedFiles<FiledWorld, S, J>>,
-    options: &Options,
+fn serve_desks<'e, R, S, J, O>(
+    server: &Server<'_, R>,
+    entrance: &'e Entrance<'e, R, SharedFiles<FiledWorld, S, J>>,
     opening: &O,
     desks: Vec<Desk<'_, R, FiledWorld, S, J>>,
 ) -> Result<(), ServingFault>
@@ -109,24 +111,25 @@ where
     S: Store + Send + Sync + 'static,
     J: Naming + Send + Sync + 'static,
     O: Opening,
-    requires { All (λ d. AreSound (content_of d.seat).revisions) desks.items }
+    requires { All (λ d. AreSound (content_of (point_of d.seat)).revisions) desks.items }
 {
-    let (sender, callers) = unbounded::<Client, Global>(entrance.alloc)?;
-    let pool = SessionPool::new(options, &OpenGate, &entrance.journal);
+    let (sender, callers) = unbounded::<Client<'e, R>, Global>(entrance.alloc)?;
+    let options = &server.settings.options;
+    let pool = SessionPool::new(options, &entrance.registry, &entrance.registry);
     let way = Way {
         sender,
         callers: &callers,
         opening,
     };
-    run_pool(entrance, &pool, way, desks)
+    run_pool(server, entrance, &pool, way, desks)
 }
 
-/// What serves sessions.
+/// Where connections come in, how many are taken, and what is told once they are.
 #[derive(Drop)]
-pub struct Server<'s, R> {
-    pub rt: &'s R,
-    pub alloc: Global,
-    pub settings: &'s Settings,
+struct Arrivals<'a, O> {
+    listener: &'a TcpListener,
+    connections: usize,
+    opening: &'a O,
 }
 
 /// Serves so many connections at the desks of a repository, one after another, each in the thread of a desk. It
@@ -141,17 +144,31 @@ where
     R: Clock + Eprint + RandomSource + Threads + Wait + Sync,
     S: Store + Send + Sync + 'static,
     J: Naming + Send + Sync + 'static,
-    requires { All (λ d. AreSound (content_of d.seat).revisions) desks.1.items }
+    requires { All (λ d. AreSound (content_of (point_of d.seat)).revisions) desks.1.items }
 {
-    serve_opened(server, listener, connections, &Silent, desks)
+    let arrivals = Arrivals {
+        listener,
+        connections,
+        opening: &Silent,
+    };
+    serve_arrivals(server, arrivals, desks)
 }
 
-/// Does so, and tells once all threads have started.
-fn serve_opened<R, S, J, O>(
+/// Tells what is to be known of the file of users before any client comes.
+fn tell_of_users<R: Clock + Eprint>(settings: &Settings, registry: &Registry<'_, R>) {
+    if settings.is_exposed {
+        registry.tell_first(Event::UsersReadable);
+    }
+    if settings.is_writable {
+        registry.tell_first(Event::UsersWritable);
+    }
+}
+
+/// Serves the connections that arrive, and tells of them in a journal.
+fn serve_told<R, S, J, O>(
     server: &Server<'_, R>,
-    listener: &TcpListener,
-    connections: usize,
-    opening: &O,
+    arrivals: Arrivals<'_, O>,
+    journal: Journal<'_, R>,
     desks: Desks<'_, R, FiledWorld, S, J>,
 ) -> Result<(), ServingFault>
 where
@@ -159,23 +176,59 @@ where
     S: Store + Send + Sync + 'static,
     J: Naming + Send + Sync + 'static,
     O: Opening,
-    requires { All (λ d. AreSound (content_of d.seat).revisions) desks.1.items }
+    requires { All (λ d. AreSound (content_of (point_of d.seat)).revisions) desks.1.items }
 {
     let (repository, desks) = desks;
     let (rt, alloc) = (server.rt, server.alloc);
+    let Arrivals {
+        listener,
+        connections,
+        opening,
+    } = arrivals;
     let entrance = Entrance {
         rt,
         alloc,
         listener,
         connections,
         per_address: server.settings.per_address,
-        journal: Journal::new(rt, alloc, server.settings.is_quiet),
+        registry: Registry::new(rt, alloc, journal),
         repository,
     };
-    if server.settings.is_exposed {
-        entrance.journal.tell(Event::UsersReadable);
-    }
-    serve_desks(&entrance, &server.settings.options, opening, desks)
+    tell_of_users(server.settings, &entrance.registry);
+    serve_desks(server, &entrance, opening, desks)
+}
+
+/// Serves the connections that arrive, while a thread writes what is told of them. That ends once all is written.
+fn serve_arrivals<R, S, J, O>(
+    server: &Server<'_, R>,
+    arrivals: Arrivals<'_, O>,
+    desks: Desks<'_, R, FiledWorld, S, J>,
+) -> Result<(), ServingFault>
+where
+    R: Clock + Eprint + RandomSource + Threads + Wait + Sync,
+    S: Store + Send + Sync + 'static,
+    J: Naming + Send + Sync + 'static,
+    O: Opening,
+    requires { All (λ d. AreSound (content_of (point_of d.seat)).revisions) desks.1.items }
+{
+    let (rt, alloc, is_quiet) = (server.rt, server.alloc, server.settings.is_quiet);
+    let (sender, receiver) = unbounded::<String, Global>(alloc)?;
+    let all_room = Room::new();
+    let (room, lines) = (&all_room, &receiver);
+    thread::scope(
+        thread::scope_env(),
+        rt,
+        move |scope| -> Result<(), ServingFault>
+            requires { All (λ d. AreSound (content_of (point_of d.seat)).revisions) desks.1.items }
+        {
+            let writer = scope.spawn(move || write_lines(rt, alloc, room, lines));
+            if writer.is_err() {
+                return Err(ServingFault::Thread);
+            }
+            let journal = Journal::new(rt, alloc, is_quiet, room, sender);
+            serve_told(server, arrivals, journal, desks)
+        },
+    )
 }
 
 /// Listens at an address.
@@ -207,7 +260,7 @@ where
         + Sync,
     S: Store + Send + Sync + 'static,
     J: Naming + Send + Sync + 'static,
-    requires { All (λ d. AreSound (content_of d.seat).revisions) desks.1.items }
+    requires { All (λ d. AreSound (content_of (point_of d.seat)).revisions) desks.1.items }
 {
     let listener = listener_at(server.rt, server.settings.address)?;
     let opening = Aloud {
@@ -215,5 +268,10 @@ where
         listener: &listener,
         too_few_files: too_few_files(server.rt),
     };
-    serve_opened(server, &listener, usize::MAX, &opening, desks)
+    let arrivals = Arrivals {
+        listener: &listener,
+        connections: usize::MAX,
+        opening: &opening,
+    };
+    serve_arrivals(server, arrivals, desks)
 }

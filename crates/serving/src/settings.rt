@@ -1,5 +1,6 @@
 //! What sessions are served by.
-ghost use Rattle.std.specs.Prelude.{◌≡◌, IfOk, Some, string_bytes};
+ghost use Rattle.std.specs.Prelude.{◌≡◌, ℕ, List, IfOk, Some, string_bytes};
+ghost use Rattle.cram.specs.UsersFile.{AreRight, file_lines, logins_of};
 
 use crate::fault::ServingFault;
 use crate::reason::Reason;
@@ -15,14 +16,23 @@ use std::os::unix::fs::PermissionsExt;
 use std::rt::Runtime;
 
 /// What sessions are served by: the options of the repository, where to listen, how many sessions one address may have,
-/// whether others can read the file of users, and whether nothing is told on standard error.
+/// whether others can read the file of users, whether they can write it, and whether nothing is told on standard error.
 #[derive(Drop)]
 pub struct Settings {
     pub options: Options,
     pub address: SocketAddrV4,
     pub per_address: u64,
     pub is_exposed: bool,
+    pub is_writable: bool,
     pub is_quiet: bool,
+}
+
+/// What serves sessions: who hands the system in, where memory comes from, and what sessions are served by.
+#[derive(Drop)]
+pub struct Server<'s, R> {
+    pub rt: &'s R,
+    pub alloc: Global,
+    pub settings: &'s Settings,
 }
 
 /// Reads where to listen: a dotted IPv4 address and a port.
@@ -56,38 +66,55 @@ fn options_of(alloc: Global, service: &Service, users: Users) -> Result<Options,
 }
 
 /// Reads the file of users.
-fn users_of<R: Runtime>(rt: &R, alloc: Global, file: &str) -> Result<Users, ServingFault> {
+fn users_of<R: Runtime>(rt: &R, alloc: Global, file: &str) -> Result<Users, ServingFault>
+    ensures { IfOk result (λ users. (bytes : List ℕ) × AreRight (file_lines bytes)
+        × (users ≡ logins_of (file_lines bytes))) }
+{
     match fs::read(rt, file) {
         Ok(bytes) => Ok(Users::read(alloc, bytes.as_slice())?),
         Err(error) => Err(ServingFault::UsersFile(Reason::of(&error))),
     }
 }
 
-/// Says whether a file can be read by others than its owner and its group.
-fn is_exposed<R: Files>(rt: &R, file: &str) -> bool {
+/// What others than a file's owner and its group may do with it, as bits of its mode.
+const OTHERS_READ: u32 = 0o004;
+
+const OTHERS_WRITE: u32 = 0o002;
+
+/// Gives the mode of a file, and 0 where that is not known.
+fn mode_of<R: Files>(rt: &R, file: &str) -> u32 {
     match fs::metadata(rt, file) {
-        Ok(metadata) => metadata.permissions().mode() & 0o004 != 0,
-        Err(_) => false,
+        Ok(metadata) => metadata.permissions().mode(),
+        Err(_) => 0,
     }
 }
 
-/// Reads what sessions are to be served by. A faulty name is told first, then a faulty address, then what is wrong
-/// with the file of users.
+/// Reads what sessions are to be served by: the name that was asked for, the users that a file says, and whether the
+/// properties of revisions may be changed. A faulty name is told first, then a faulty address, then what is wrong with the
+/// file of users.
 pub fn read_settings<R: Runtime>(
     rt: &R,
     alloc: Global,
     service: &Service,
-) -> Result<Settings, ServingFault> {
+) -> Result<Settings, ServingFault>
+    ensures { IfOk result (λ s. (bytes : List ℕ) × AreRight (file_lines bytes) × (s.options ≡ record {
+      name = string_bytes service.now.name;
+      users = Some (logins_of (file_lines bytes));
+      revprops = service.now.revprops;
+    })) }
+{
     if !is_repository_name(service.name.as_str()) {
         return Err(ServingFault::Name);
     }
     let address = address_of(service)?;
     let users = users_of(rt, alloc, service.users.as_str())?;
+    let mode = mode_of(rt, service.users.as_str());
     Ok(Settings {
         options: options_of(alloc, service, users)?,
         address,
         per_address: service.per_address,
-        is_exposed: is_exposed(rt, service.users.as_str()),
+        is_exposed: mode & OTHERS_READ != 0,
+        is_writable: mode & OTHERS_WRITE != 0,
         is_quiet: service.quiet,
     })
 }

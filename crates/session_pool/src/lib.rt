@@ -3,9 +3,11 @@
 
 mod admission;
 mod admitting;
+mod attendant;
 mod places;
 mod pool;
 
 pub use admission::Admission;
+pub use attendant::{Attendant, Caller};
 pub use places::MAX_SESSIONS;
-pub use pool::{Caller, SessionPool};
+pub use pool::SessionPool;

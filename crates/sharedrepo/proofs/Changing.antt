@@ -12,9 +12,11 @@ use Rattle.access.specs.{Changing.{ChangesAt, IsHalt, ReleasesAfter, ReplacesAt,
 use Rattle.access.specs.{declared.access.Released.Released, declared.access.Released.TheVariants.{Settled, NoMemory, StoreFailed}}
 use Rattle.access.specs.declared.handed.Handed.{Handed}
 use Rattle.published.specs.{Changes.IsRight, Moments.{added, shared_rules}}
-use Rattle.sharedrepo.specs.{Archives.{Kept, IsMade, IsNext}, Settling.{SettlesTo, ReleasesTo, ReleasesHanded}}
-use Rattle.sharedrepo.specs.Standing.{Standing, IsSteady, now_of, NotBegun}
-use Rattle.sharedrepo.proofs.Keeping.{files_now, sound_now}
+use Rattle.published.specs.Files.{Kept}
+use Rattle.archives.specs.Archives.{IsMade, IsNext}
+use Rattle.keepers.specs.{Settling.SettlesTo, Standing.{Standing, IsSteady, now_of, NotBegun}}
+use Rattle.keepers.proofs.Keeping.{sound_now}
+use Rattle.sharedrepo.specs.Releasing.{ReleasesTo, ReleasesHanded}
 
 abbrev is_commit : Accepted → Bool
 is_commit (Commits ask t) = true
@@ -48,48 +50,51 @@ commit_fails p q refusal e Made faults.StoreFailed running none s = (running, no
 commit_fails p q refusal e Made faults.Halted running none s = inr (running, none, s)
 commit_fails p q refusal e Made faults.NoMemory running none s = s
 
-module _ {S : Type 0} (kept : S → Kept) (stands : S → List RepoState → Type 0) (k : Standing S) where
+module _ {S : Type 0} (kept : S → Kept) (stands : S → List RepoState → Type 0) (k : Standing S) (n : ℕ) (steady : IsSteady kept stands k) where
   -- a change that was not begun
   pub not_begun : {T : Type 0} (refusal : Option Refusal) (e : Accepted) (Made : T → Point → Type 0) (fault : ChangeFault)
-      → NotBegun kept fault k → ChangesAt refusal e Made (now_of kept k) (Err fault) (now_of kept k)
+      → NotBegun kept fault k → ChangesAt refusal e Made (now_of n k) (Err fault) (now_of n k)
   not_begun refusal e Made (faults.Refused r) why = absurd why
   not_begun refusal e Made faults.StoreFailed why = absurd why
-  not_begun refusal e Made faults.Halted why = inl (why, refl)
+  not_begun refusal e Made faults.Halted why = inl (sym steady.agrees.halted ∙ why, refl)
   not_begun refusal e Made faults.NoMemory why = refl
 
-  module _ (steady : IsSteady kept stands k) (running : (kept k.archive).halted ≡ false) where
+  module _ (running : (kept k.archive).halted ≡ false) where
+    here : (now_of n k).halted ≡ false
+    here = sym steady.agrees.halted ∙ running
+
     -- a change that was refused, or lacked memory, before it was saved
     pub refused : (U : Type 0) {T : Type 0} (e : Accepted) (Made : T → Point → Type 0) (fault : ChangeFault)
         → IsJudged {T = U} (Err fault) (refusal_of (kept k.archive).content e)
-        → ChangesAt (refusal_of (content_of (now_of kept k)) e) e Made (now_of kept k) (Err fault) (now_of kept k)
+        → ChangesAt (refusal_of (content_of (now_of n k)) e) e Made (now_of n k) (Err fault) (now_of n k)
     refused U e Made (faults.Refused r) why =
-        (running, subst (λ (c : RepoState). refusal_of c e ≡ Some r) (files_now kept stands k steady running) why.1, refl)
+        (here, subst (λ (c : RepoState). refusal_of c e ≡ Some r) (steady.agrees.content running) why.1, refl)
     refused U e Made faults.StoreFailed why = absurd why.2
     refused U e Made faults.Halted why = absurd why.2
     refused U e Made faults.NoMemory why = refl
 
     -- what the archive has made is accepted where the keeper stands
-    pub accepted_now : (e : Accepted) (d : RepoState) → IsMade (kept k.archive).content e d → IsAccepted (content_of (now_of kept k)) e
-    accepted_now e d made = subst (λ (c : RepoState). IsAccepted c e) (files_now kept stands k steady running) made.accepted
+    pub accepted_now : (e : Accepted) (d : RepoState) → IsMade (kept k.archive).content e d → IsAccepted (content_of (now_of n k)) e
+    accepted_now e d made = subst (λ (c : RepoState). IsAccepted c e) (steady.agrees.content running) made.accepted
 
     -- and is what comes next
     pub next_by : (e asked : Accepted) (d : RepoState) → IsMade (kept k.archive).content e d → asked ≡ e
-        → (AreSound (content_of (now_of kept k)).revisions → IsAccepted (content_of (now_of kept k)) e → IsRight (content_of (now_of kept k)) e)
+        → (AreSound (content_of (now_of n k)).revisions → IsAccepted (content_of (now_of n k)) e → IsRight (content_of (now_of n k)) e)
         → IsNext k.content asked d
     next_by e asked d made is right =
-        let there : content_of (now_of kept k) ≡ k.content = sym steady.content in
+        let there : content_of (now_of n k) ≡ k.content = sym steady.content in
         subst (λ (x : Accepted). IsNext k.content x d) (sym is) (record {
           right = subst (λ (c : RepoState). IsRight c e) there (right (sound_now kept stands k steady) (accepted_now e d made));
-          made = made.made ∙ ap (λ (c : RepoState). changed c e) (files_now kept stands k steady running ∙ there);
+          made = made.made ∙ ap (λ (c : RepoState). changed c e) (steady.agrees.content running ∙ there);
         })
 
     -- what it has led to, if it was no commit
     pub settled_by : (q : Point) (e asked : Accepted) (d : RepoState) (refusal : Option Refusal) (r : Result (Unit {0}) ChangeFault)
-        → IsMade (kept k.archive).content e d → asked ≡ e → (IsAccepted (content_of (now_of kept k)) e → refusal ≡ None)
-        → SettlesTo asked (now_of kept k) r q → ReplacesAt shared_rules refusal e (now_of kept k) r q
+        → IsMade (kept k.archive).content e d → asked ≡ e → (IsAccepted (content_of (now_of n k)) e → refusal ≡ None)
+        → SettlesTo asked (now_of n k) r q → ReplacesAt shared_rules refusal e (now_of n k) r q
     settled_by q e asked d refusal r made is accepts s =
-        settled_all (now_of kept k) q refusal e r running (accepts (accepted_now e d made))
-        (subst (λ (x : Accepted). SettlesTo x (now_of kept k) r q) is s)
+        settled_all (now_of n k) q refusal e r here (accepts (accepted_now e d made))
+        (subst (λ (x : Accepted). SettlesTo x (now_of n k) r q) is s)
 
 -- the youngest revision behind a commit is the one that it has made
 pub number_is : (c : RepoState) (ask : CommitAsk) (t : TxnState) (at d : RepoState) → c ≡ at → d ≡ committed c ask t

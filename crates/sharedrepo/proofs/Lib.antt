@@ -1,4 +1,3 @@
-pub mod Keeping
 pub mod Changing
 pub mod Calling
 pub mod Stopping

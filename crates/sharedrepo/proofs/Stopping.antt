@@ -1,31 +1,14 @@
--- What a stop leaves within a call of a keeper.
-use Rattle.std.proofs.Common.{◌≡◌, Bool, List, [], ◌∷◌, ◌++◌, false, Option, Some, None, subst}
-use mathlib.Core.List.{IsPrefix}
-use Rattle.repo_api.specs.{Accepted.{Accepted, changed, changed_all, IsAccepted}, Accepted.Accepted.{Commits, Releases}, States.{RepoState, TxnState}, declared.ask.CommitAsk.CommitAsk}
+-- What a stop leaves within a commit with its release.
+use Rattle.std.proofs.Common.{◌≡◌, List, [], ◌∷◌, ◌++◌, false, Option, Some, None, subst}
+use Rattle.repo_api.specs.{Accepted.{Accepted, changed, IsAccepted}, Accepted.Accepted.{Commits, Releases}, States.{RepoState, TxnState}, declared.ask.CommitAsk.CommitAsk}
 use Rattle.access.specs.{declared.handed.Handed.Handed, Handed.IsHandedIn}
-use Rattle.published.specs.Events.{state_of}
-use Rattle.stops.specs.Beginnings.{AreAmong, through}
+use Rattle.published.specs.{Events.state_of, Files.Kept}
+use Rattle.stops.specs.Beginnings.{AreAmong}
 use Rattle.stops.proofs.First as first
-use Rattle.sharedrepo.specs.{Archives.{Kept, FilesFor}, Settling.releases_of, Standing.{Standing, IsSteady, StopLeaves}}
+use Rattle.keepers.specs.Standing.{Standing, StopLeaves}
+use Rattle.sharedrepo.specs.Releasing.{releases_of}
 
 module _ {S : Type 0} (kept : S → Kept) (leaves : S → S → List RepoState → Type 0) where
-  -- the save of a right change, which was made or not
-  pub stop_left : (k k' : Standing S) (e : Accepted) (made : List Accepted) → (kept k.archive).halted ≡ false
-      → (kept k.archive).content ≡ state_of k.list → IsAccepted (state_of k.list) e
-      → IsPrefix made (e ∷ []) → state_of k'.list ≡ changed_all (state_of k.list) made
-      → leaves k.archive k'.archive (through (kept k.archive).content (e ∷ [])) → StopLeaves kept leaves (e ∷ []) k k'
-  stop_left k k' e made running stood accepted begins makes left =
-      first.saved (λ k. state_of k.list) (λ k. k.archive) (λ a. (kept a).halted) leaves k k' e made running accepted begins makes
-      (subst (λ (c : RepoState). leaves k.archive k'.archive (through c (e ∷ []))) stood left)
-
-  -- nothing is done
-  pub still : (stands : S → List RepoState → Type 0) → ((a : S) (cs : List RepoState) → stands a cs → leaves a a cs)
-      → (k : Standing S) → IsSteady kept stands k → (asked : List Accepted) → StopLeaves kept leaves asked k k
-  still stands stays k steady asked =
-      first.still (λ k. state_of k.list) (λ k. k.archive) (λ a. (kept a).halted) leaves k asked
-      (λ running. stays k.archive (state_of k.list ∷ [])
-      (subst (λ (b : Bool). FilesFor stands (kept k.archive) k.archive b k.pending k.list) running steady.files).1)
-
   -- a commit that was not made
   pub not_released : (k m : Standing S) (ask : CommitAsk) (t : TxnState) → StopLeaves kept leaves (Commits ask t ∷ []) k m
       → StopLeaves kept leaves (Commits ask t ∷ Releases ask.author ask.tokens ∷ []) k m

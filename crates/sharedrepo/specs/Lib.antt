@@ -1,3 +1,2 @@
-pub mod Archives
-pub mod Standing
-pub mod Settling
+pub mod Releasing
+pub mod Calls

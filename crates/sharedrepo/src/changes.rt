@@ -2,12 +2,13 @@
 ghost use Rattle.std.specs.Prelude.{◌≡◌, false, true, [], ◌∷◌, None};
 ghost use Rattle.access.specs.{Changing.{ChangesPropertyAt, CommitsAt, LocksAt, ReplacesAt, UnlocksAt}, Points.content_of};
 ghost use Rattle.repo_api.specs.{Accepted.Accepted.{ChangesProperty, Commits, Locks, Releases, Unlocks}, Locking.releases, Transactions.MayCommit};
-ghost use Rattle.published.specs.Moments.{shared_rules};
-ghost use Rattle.sharedrepo.specs.{Settling.{ReleasesHanded, ReleasesTo, Revises, released_as, releases_of}, Standing.{Begins, HappensAt, IsSteady, StopLeaves, now_of}};
+ghost use Rattle.published.specs.{Events.knowing, Moments.shared_rules};
+ghost use Rattle.keepers.specs.Standing.{HappensAt, StopLeaves, now_of};
+ghost use Rattle.sharedrepo.specs.Releasing.{ReleasesHanded, ReleasesTo, Revises, released_as, releases_of};
 
-use crate::archive::Archive;
-use crate::keeper::Keeper;
 use access::{Committed, Handed, Released, handed_locks};
+use archives::Archive;
+use keepers::{Keeper, Seat};
 use left_right::Absorb;
 use noted::Noted;
 use published::{AskedChange, Carries, Naming, Published, Sets, commits_are_right};
@@ -15,9 +16,6 @@ use repo_api::{ChangeFault, CommitAsk, LockAsk, PropertyAsk, Repository, UnlockA
 use std::alloc::AllocError;
 use std::mem::drop;
 use std::sync::Wait;
-
-/// How many events there are at most.
-const MAX_EVENTS: u64 = 1 << 60;
 
 /// Says what a release is reported as.
 fn released(answer: Result<(), ChangeFault>) -> Released
@@ -30,224 +28,289 @@ fn released(answer: Result<(), ChangeFault>) -> Released
     }
 }
 
-impl<
+/// Makes the transaction the next revision.
+fn make_revision<
     R: Repository,
     S: Archive<R>,
     J: Naming,
     T: Absorb<O> + Carries<Published<R, J>> + Drop,
     O: Sets<Published<R, J>> + Drop,
-> Keeper<R, S, J, T, O> {
-    /// Shows that the keeper is steady.
-    fn stand_still(&self)
-        ensures { IsSteady S.kept S.stands self.now }
-    {
-        let _is_halted = self.archive.is_halted();
-    }
-
-    /// Says whether a change can begin, or why none can.
-    fn readiness(&self) -> Result<(), ChangeFault>
-        ensures { IsSteady S.kept S.stands self.now × Begins S.kept result self.now }
-    {
-        if self.archive.is_halted() {
-            return Err(ChangeFault::Halted);
+    W: Wait,
+>(
+    keeper: &mut Keeper<R, S, J, T, O>,
+    rt: &W,
+    seat: &mut Seat<R, J, T>,
+    ask: CommitAsk,
+    txn: R::Txn,
+) -> Result<u64, ChangeFault>
+    requires met { seat.old ≡ knowing seat.old.number keeper.old.list }
+    requires may { MayCommit (content_of (now_of seat.old.number keeper.old)) (R.txn_state txn) }
+    ensures point { HappensAt (Revises ask (R.txn_state txn)) seat.old.number keeper.old result keeper.new }
+    ensures told { seat.new ≡ knowing seat.old.number keeper.new.list }
+    ensures stop { StopLeaves S.kept S.leaves (Commits ask (R.txn_state txn) ∷ []) keeper.old keeper.new }
+{
+    commits_are_right();
+    match keeper.readiness() {
+        Err(fault) => {
+            drop((ask, txn));
+            Err(fault)
         }
-        if self.has_ended || self.front.len() >= MAX_EVENTS {
-            return Err(ChangeFault::NoMemory);
-        }
-        Ok(())
-    }
-
-    /// Makes the transaction the next revision.
-    fn make_revision<W: Wait>(
-        &mut self,
-        rt: &W,
-        ask: CommitAsk,
-        txn: R::Txn,
-    ) -> Result<u64, ChangeFault>
-        requires { MayCommit (content_of (now_of S.kept self.old)) (R.txn_state txn) }
-        ensures point { HappensAt S.kept (Revises ask (R.txn_state txn)) self.old result self.new }
-        ensures stop { StopLeaves S.kept S.leaves (Commits ask (R.txn_state txn) ∷ []) self.old self.new }
-    {
-        commits_are_right();
-        match self.readiness() {
-            Err(fault) => {
-                drop((ask, txn));
-                Err(fault)
-            }
-            Ok(()) => {
-                let asked = AskedChange::Commit(Noted::of(&ask), Noted::of(&txn));
-                match self.archive.committed(ask, txn) {
-                    Err(fault) => {
-                        drop(asked);
-                        Err(fault)
-                    }
-                    Ok((next, unsaved)) => {
-                        let revision = next.youngest();
-                        match self.settle(rt, next, unsaved, asked) {
-                            Ok(()) => Ok(revision),
-                            Err(fault) => Err(fault),
-                        }
-                    }
-                }
-            }
-        }
-    }
-
-    /// Takes the locks away that were handed in, of which there is one.
-    fn take_locks<W: Wait>(&mut self, rt: &W, handed: &Handed) -> Result<(), ChangeFault>
-        requires { releases handed.now.user handed.now.tokens
-            (content_of (now_of S.kept self.old)).locks ≡ true }
-        ensures point { HappensAt S.kept (ReplacesAt shared_rules None
-            (Releases handed.now.user handed.now.tokens)) self.old result self.new }
-        ensures stop { StopLeaves S.kept S.leaves (Releases handed.now.user handed.now.tokens ∷ []) self.old self.new }
-    {
-        match self.readiness() {
-            Err(fault) => Err(fault),
-            Ok(()) => {
-                let asked = AskedChange::Release(Noted::of(handed));
-                match self.archive.released(handed) {
-                    Err(fault) => {
-                        drop(asked);
-                        Err(fault)
-                    }
-                    Ok((next, unsaved)) => self.settle(rt, next, unsaved, asked),
-                }
-            }
-        }
-    }
-
-    /// Releases what was handed in.
-    fn release<W: Wait>(&mut self, rt: &W, handed: &Handed) -> Released
-        requires { (S.kept self.old.archive).halted ≡ false }
-        ensures point { HappensAt S.kept (ReleasesTo handed.now) self.old result self.new }
-        ensures stop { StopLeaves S.kept S.leaves (Releases handed.now.user handed.now.tokens ∷ []) self.old self.new }
-    {
-        if !self
-            .repository
-            .releases(handed.user.as_ref(), &handed.tokens)
-        {
-            self.stand_still();
-            return Released::Settled;
-        }
-        released(self.take_locks(rt, handed))
-    }
-
-    /// Releases what was handed in, if something was.
-    fn release_handed<W: Wait>(&mut self, rt: &W, handed: Option<Handed>) -> Released
-        requires { (S.kept self.old.archive).halted ≡ false }
-        ensures point { HappensAt S.kept (ReleasesHanded handed) self.old result self.new }
-        ensures stop { StopLeaves S.kept S.leaves (releases_of handed) self.old self.new }
-    {
-        match handed {
-            None => {
-                self.stand_still();
-                Released::Settled
-            }
-            Some(handed) => self.release(rt, &handed),
-        }
-    }
-
-    /// Commits, and then releases what was handed in.
-    pub(crate) fn make_commit<W: Wait>(
-        &mut self,
-        rt: &W,
-        ask: CommitAsk,
-        txn: R::Txn,
-    ) -> Result<Committed, ChangeFault>
-        requires { MayCommit (content_of (now_of S.kept self.old)) (R.txn_state txn) }
-        ensures point { HappensAt S.kept (CommitsAt shared_rules ask (R.txn_state txn)) self.old result
-            self.new }
-        ensures stop { StopLeaves S.kept S.leaves (Commits ask (R.txn_state txn) ∷ Releases ask.author ask.tokens ∷ []) self.old self.new }
-    {
-        match handed_locks(&ask) {
-            Err(AllocError) => {
-                self.stand_still();
-                drop((ask, txn));
-                Err(ChangeFault::NoMemory)
-            }
-            Ok(handed) => match self.make_revision(rt, ask, txn) {
+        Ok(()) => {
+            let asked = AskedChange::Commit(Noted::of(&ask), Noted::of(&txn));
+            match keeper.archive().committed(ask, txn) {
                 Err(fault) => {
-                    drop(handed);
+                    drop(asked);
                     Err(fault)
                 }
-                Ok(revision) => Ok(Committed {
+                Ok((next, unsaved)) => {
+                    let revision = next.youngest();
+                    match keeper.settle(rt, seat, next, unsaved, asked) {
+                        Ok(()) => Ok(revision),
+                        Err(fault) => Err(fault),
+                    }
+                }
+            }
+        }
+    }
+}
+
+/// Takes the locks away that were handed in, of which there is one.
+fn take_locks<
+    R: Repository,
+    S: Archive<R>,
+    J: Naming,
+    T: Absorb<O> + Carries<Published<R, J>> + Drop,
+    O: Sets<Published<R, J>> + Drop,
+    W: Wait,
+>(
+    keeper: &mut Keeper<R, S, J, T, O>,
+    rt: &W,
+    seat: &mut Seat<R, J, T>,
+    handed: &Handed,
+) -> Result<(), ChangeFault>
+    requires met { seat.old ≡ knowing seat.old.number keeper.old.list }
+    requires wanted { releases handed.now.user handed.now.tokens
+        (content_of (now_of seat.old.number keeper.old)).locks ≡ true }
+    ensures point { HappensAt (ReplacesAt shared_rules None
+        (Releases handed.now.user handed.now.tokens)) seat.old.number keeper.old result keeper.new }
+    ensures told { seat.new ≡ knowing seat.old.number keeper.new.list }
+    ensures stop { StopLeaves S.kept S.leaves (Releases handed.now.user handed.now.tokens ∷ []) keeper.old keeper.new }
+{
+    match keeper.readiness() {
+        Err(fault) => Err(fault),
+        Ok(()) => {
+            let asked = AskedChange::Release(Noted::of(handed));
+            match keeper.archive().released(handed) {
+                Err(fault) => {
+                    drop(asked);
+                    Err(fault)
+                }
+                Ok((next, unsaved)) => keeper.settle(rt, seat, next, unsaved, asked),
+            }
+        }
+    }
+}
+
+/// Releases what was handed in.
+fn release<
+    R: Repository,
+    S: Archive<R>,
+    J: Naming,
+    T: Absorb<O> + Carries<Published<R, J>> + Drop,
+    O: Sets<Published<R, J>> + Drop,
+    W: Wait,
+>(keeper: &mut Keeper<R, S, J, T, O>, rt: &W, seat: &mut Seat<R, J, T>, handed: &Handed) -> Released
+    requires met { seat.old ≡ knowing seat.old.number keeper.old.list }
+    requires running { (now_of seat.old.number keeper.old).halted ≡ false }
+    ensures point { HappensAt (ReleasesTo handed.now) seat.old.number keeper.old result keeper.new }
+    ensures told { seat.new ≡ knowing seat.old.number keeper.new.list }
+    ensures stop { StopLeaves S.kept S.leaves (Releases handed.now.user handed.now.tokens ∷ []) keeper.old keeper.new }
+{
+    if !keeper
+        .repository()
+        .releases(handed.user.as_ref(), &handed.tokens)
+    {
+        let _archive = keeper.archive();
+        return Released::Settled;
+    }
+    released(take_locks(keeper, rt, seat, handed))
+}
+
+/// Releases what was handed in, if something was.
+fn release_handed<
+    R: Repository,
+    S: Archive<R>,
+    J: Naming,
+    T: Absorb<O> + Carries<Published<R, J>> + Drop,
+    O: Sets<Published<R, J>> + Drop,
+    W: Wait,
+>(
+    keeper: &mut Keeper<R, S, J, T, O>,
+    rt: &W,
+    seat: &mut Seat<R, J, T>,
+    handed: Option<Handed>,
+) -> Released
+    requires met { seat.old ≡ knowing seat.old.number keeper.old.list }
+    requires running { (now_of seat.old.number keeper.old).halted ≡ false }
+    ensures point { HappensAt (ReleasesHanded handed) seat.old.number keeper.old result keeper.new }
+    ensures told { seat.new ≡ knowing seat.old.number keeper.new.list }
+    ensures stop { StopLeaves S.kept S.leaves (releases_of handed) keeper.old keeper.new }
+{
+    match handed {
+        None => {
+            let _archive = keeper.archive();
+            Released::Settled
+        }
+        Some(handed) => release(keeper, rt, seat, &handed),
+    }
+}
+
+/// Commits, and then releases what was handed in.
+pub(crate) fn make_commit<
+    R: Repository,
+    S: Archive<R>,
+    J: Naming,
+    T: Absorb<O> + Carries<Published<R, J>> + Drop,
+    O: Sets<Published<R, J>> + Drop,
+    W: Wait,
+>(
+    keeper: &mut Keeper<R, S, J, T, O>,
+    rt: &W,
+    seat: &mut Seat<R, J, T>,
+    ask: CommitAsk,
+    txn: R::Txn,
+) -> Result<Committed, ChangeFault>
+    requires met { seat.old ≡ knowing seat.old.number keeper.old.list }
+    requires may { MayCommit (content_of (now_of seat.old.number keeper.old)) (R.txn_state txn) }
+    ensures point { HappensAt (CommitsAt shared_rules ask (R.txn_state txn)) seat.old.number keeper.old result keeper.new }
+    ensures told { seat.new ≡ knowing seat.old.number keeper.new.list }
+    ensures stop { StopLeaves S.kept S.leaves (Commits ask (R.txn_state txn) ∷ Releases ask.author ask.tokens ∷ []) keeper.old keeper.new }
+{
+    let _archive = keeper.archive();
+    match handed_locks(&ask) {
+        Err(AllocError) => {
+            drop((ask, txn));
+            Err(ChangeFault::NoMemory)
+        }
+        Ok(handed) => match make_revision(keeper, rt, seat, ask, txn) {
+            Err(fault) => {
+                drop(handed);
+                Err(fault)
+            }
+            Ok(revision) => {
+                let _archive = keeper.archive();
+                Ok(Committed {
                     revision,
-                    released: self.release_handed(rt, handed),
-                }),
-            },
-        }
-    }
-
-    /// Locks.
-    pub(crate) fn make_lock<W: Wait>(&mut self, rt: &W, ask: LockAsk) -> Result<(), ChangeFault>
-        ensures point { HappensAt S.kept (LocksAt shared_rules ask) self.old result self.new }
-        ensures stop { StopLeaves S.kept S.leaves (Locks ask ∷ []) self.old self.new }
-    {
-        match self.readiness() {
-            Err(fault) => {
-                drop(ask);
-                Err(fault)
+                    released: release_handed(keeper, rt, seat, handed),
+                })
             }
-            Ok(()) => {
-                let asked = AskedChange::Lock(Noted::of(&ask));
-                match self.archive.locked(ask) {
-                    Err(fault) => {
-                        drop(asked);
-                        Err(fault)
-                    }
-                    Ok((next, unsaved)) => self.settle(rt, next, unsaved, asked),
-                }
-            }
-        }
+        },
     }
+}
 
-    /// Unlocks.
-    pub(crate) fn make_unlock<W: Wait>(
-        &mut self,
-        rt: &W,
-        ask: &UnlockAsk,
-    ) -> Result<(), ChangeFault>
-        ensures point { HappensAt S.kept (UnlocksAt shared_rules ask.now) self.old result self.new }
-        ensures stop { StopLeaves S.kept S.leaves (Unlocks ask.now ∷ []) self.old self.new }
-    {
-        match self.readiness() {
-            Err(fault) => Err(fault),
-            Ok(()) => {
-                let asked = AskedChange::Unlock(Noted::of(ask));
-                match self.archive.unlocked(ask) {
-                    Err(fault) => {
-                        drop(asked);
-                        Err(fault)
-                    }
-                    Ok((next, unsaved)) => self.settle(rt, next, unsaved, asked),
+/// Locks.
+pub(crate) fn make_lock<
+    R: Repository,
+    S: Archive<R>,
+    J: Naming,
+    T: Absorb<O> + Carries<Published<R, J>> + Drop,
+    O: Sets<Published<R, J>> + Drop,
+    W: Wait,
+>(
+    keeper: &mut Keeper<R, S, J, T, O>,
+    rt: &W,
+    seat: &mut Seat<R, J, T>,
+    ask: LockAsk,
+) -> Result<(), ChangeFault>
+    requires met { seat.old ≡ knowing seat.old.number keeper.old.list }
+    ensures point { HappensAt (LocksAt shared_rules ask) seat.old.number keeper.old result keeper.new }
+    ensures told { seat.new ≡ knowing seat.old.number keeper.new.list }
+    ensures stop { StopLeaves S.kept S.leaves (Locks ask ∷ []) keeper.old keeper.new }
+{
+    match keeper.readiness() {
+        Err(fault) => {
+            drop(ask);
+            Err(fault)
+        }
+        Ok(()) => {
+            let asked = AskedChange::Lock(Noted::of(&ask));
+            match keeper.archive().locked(ask) {
+                Err(fault) => {
+                    drop(asked);
+                    Err(fault)
                 }
+                Ok((next, unsaved)) => keeper.settle(rt, seat, next, unsaved, asked),
             }
         }
     }
+}
 
-    /// Changes a property of a revision.
-    pub(crate) fn make_property<W: Wait>(
-        &mut self,
-        rt: &W,
-        ask: PropertyAsk,
-    ) -> Result<(), ChangeFault>
-        ensures point { HappensAt S.kept (ChangesPropertyAt shared_rules ask) self.old result self.new }
-        ensures stop { StopLeaves S.kept S.leaves (ChangesProperty ask ∷ []) self.old self.new }
-    {
-        match self.readiness() {
-            Err(fault) => {
-                drop(ask);
-                Err(fault)
-            }
-            Ok(()) => {
-                let asked = AskedChange::Property(Noted::of(&ask));
-                match self.archive.property_changed(ask) {
-                    Err(fault) => {
-                        drop(asked);
-                        Err(fault)
-                    }
-                    Ok((next, unsaved)) => self.settle(rt, next, unsaved, asked),
+/// Unlocks.
+pub(crate) fn make_unlock<
+    R: Repository,
+    S: Archive<R>,
+    J: Naming,
+    T: Absorb<O> + Carries<Published<R, J>> + Drop,
+    O: Sets<Published<R, J>> + Drop,
+    W: Wait,
+>(
+    keeper: &mut Keeper<R, S, J, T, O>,
+    rt: &W,
+    seat: &mut Seat<R, J, T>,
+    ask: &UnlockAsk,
+) -> Result<(), ChangeFault>
+    requires met { seat.old ≡ knowing seat.old.number keeper.old.list }
+    ensures point { HappensAt (UnlocksAt shared_rules ask.now) seat.old.number keeper.old result keeper.new }
+    ensures told { seat.new ≡ knowing seat.old.number keeper.new.list }
+    ensures stop { StopLeaves S.kept S.leaves (Unlocks ask.now ∷ []) keeper.old keeper.new }
+{
+    match keeper.readiness() {
+        Err(fault) => Err(fault),
+        Ok(()) => {
+            let asked = AskedChange::Unlock(Noted::of(ask));
+            match keeper.archive().unlocked(ask) {
+                Err(fault) => {
+                    drop(asked);
+                    Err(fault)
                 }
+                Ok((next, unsaved)) => keeper.settle(rt, seat, next, unsaved, asked),
+            }
+        }
+    }
+}
+
+/// Changes a property of a revision.
+pub(crate) fn make_property<
+    R: Repository,
+    S: Archive<R>,
+    J: Naming,
+    T: Absorb<O> + Carries<Published<R, J>> + Drop,
+    O: Sets<Published<R, J>> + Drop,
+    W: Wait,
+>(
+    keeper: &mut Keeper<R, S, J, T, O>,
+    rt: &W,
+    seat: &mut Seat<R, J, T>,
+    ask: PropertyAsk,
+) -> Result<(), ChangeFault>
+    requires met { seat.old ≡ knowing seat.old.number keeper.old.list }
+    ensures point { HappensAt (ChangesPropertyAt shared_rules ask) seat.old.number keeper.old result keeper.new }
+    ensures told { seat.new ≡ knowing seat.old.number keeper.new.list }
+    ensures stop { StopLeaves S.kept S.leaves (ChangesProperty ask ∷ []) keeper.old keeper.new }
+{
+    match keeper.readiness() {
+        Err(fault) => {
+            drop(ask);
+            Err(fault)
+        }
+        Ok(()) => {
+            let asked = AskedChange::Property(Noted::of(&ask));
+            match keeper.archive().property_changed(ask) {
+                Err(fault) => {
+                    drop(asked);
+                    Err(fault)
+                }
+                Ok((next, unsaved)) => keeper.settle(rt, seat, next, unsaved, asked),
             }
         }
     }

@@ -3,9 +3,9 @@ ghost use Rattle.std.specs.Prelude.{◌≡◌, false, List};
 ghost use Rattle.repo_api.specs.{Accepted.Accepted, States.RepoState};
 ghost use Rattle.published.specs.Events.{state_of};
 ghost use Rattle.stops.specs.{Beginnings.{GoesOnTo, IsAmong}, Calls.{IsWithin, after_calls}};
-ghost use Rattle.sharedrepo.specs.Standing.{IsSteady, MakesCalls, Standing};
+ghost use Rattle.keepers.specs.Standing.{IsSteady, MakesCalls, Standing};
 
-use crate::archive::Archive;
+use archives::Archive;
 use repo_api::Repository;
 
 /// Shows what a stop leaves at any moment of a run of calls of a keeper, by whichever of its seats: the files of the

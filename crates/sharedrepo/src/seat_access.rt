@@ -1,8 +1,8 @@
 //! A seat with the lock, as a session reaches the repository.
-use crate::archive::Archive;
-use crate::seat::Seat;
 use crate::shared_repo::Locked;
-use access::{Committed, RepoAccess};
+use access::{Committed, RepoAccess, SharedAccess};
+use archives::Archive;
+use keepers::Seat;
 use left_right::Absorb;
 use published::{Carries, Naming, Published, Sets};
 use repo_api::{ChangeFault, CommitAsk, LockAsk, PropertyAsk, Repository, UnlockAsk};
@@ -32,11 +32,11 @@ impl<
     O: Sets<Published<R, J>> + Drop,
     W: Wait + Drop,
 > RepoAccess for SeatAccess<R, S, J, T, O, W> {
-    ghost use Rattle.published.specs.Moments.{shared_rules, stays, goes_on, keeps, sound, lasts, counts};
+    ghost use Rattle.published.specs.{Events.point_of, Moments.{shared_rules, stays, goes_on, keeps, sound, lasts, counts}};
 
     type View = R;
 
-    ghost point = { λ a. a.seat };
+    ghost point = { λ a. point_of a.seat };
 
     ghost rules = { shared_rules };
 
@@ -53,9 +53,7 @@ impl<
     ghost counts = { counts };
 
     fn look(&mut self) -> Result<R, AllocError> {
-        let view = self.seat.look();
-        self.seat.learn(self.repository.has_halted());
-        view
+        self.seat.look()
     }
 
     fn is_halted(&self) -> bool {
@@ -78,4 +76,19 @@ impl<
         self.repository
             .change_property(&self.rt, &mut self.seat, ask)
     }
+}
+
+impl<
+    R: Repository,
+    S: Archive<R>,
+    J: Naming,
+    T: Absorb<O> + Carries<Published<R, J>> + Drop,
+    O: Sets<Published<R, J>> + Drop,
+    W: Wait + Drop,
+> SharedAccess for SeatAccess<R, S, J, T, O, W> {
+    ghost use Rattle.published.specs.Moments.{others, counted};
+
+    ghost others = { others };
+
+    ghost counted = { counted };
 }

@@ -1,14 +1,15 @@
 //! The keeper under a lock, by which threads change the repository, each by a seat of its own.
 ghost use Rattle.std.specs.Prelude.{◌≡◌, IfOk};
-ghost use Rattle.access.specs.{Changing.{ChangesPropertyAt, CommitsAt, Happens, LocksAt, UnlocksAt}, Points.content_of};
-ghost use Rattle.published.specs.Moments.{shared_rules};
+ghost use Rattle.access.specs.{Changing.{ChangesPropertyAt, CommitsAt, LocksAt, UnlocksAt}, Points.content_of};
+ghost use Rattle.published.specs.{Events.point_of, Files.MayOpen, Moments.shared_rules};
 ghost use Rattle.repo_api.specs.Transactions.{MayCommit};
-ghost use Rattle.sharedrepo.specs.{Archives.MayOpen, Standing.HaveSeenOpening};
+ghost use Rattle.keepers.specs.Standing.{HaveSeenOpening};
+ghost use Rattle.sharedrepo.specs.Calls.{Answers};
 
-use crate::archive::Archive;
-use crate::keeper::Keeper;
-use crate::seat::Seat;
+use crate::calls;
 use access::Committed;
+use archives::Archive;
+use keepers::{Keeper, Seat};
 use left_right::Absorb;
 use published::{Carries, Naming, NewHistory, Published, Sets, Setting, Shown};
 use repo_api::{ChangeFault, CommitAsk, LockAsk, PropertyAsk, Repository, UnlockAsk};
@@ -105,11 +106,10 @@ impl<
         ask: CommitAsk,
         txn: R::Txn,
     ) -> Result<Committed, ChangeFault>
-        requires { MayCommit (content_of seat.old) (R.txn_state txn) }
-        ensures { Happens shared_rules (CommitsAt shared_rules ask (R.txn_state txn)) seat.old
-            result seat.new }
+        requires { MayCommit (content_of (point_of seat.old)) (R.txn_state txn) }
+        ensures { Answers (CommitsAt shared_rules ask (R.txn_state txn)) seat.old result seat.new }
     {
-        let answer = self.keeper.lock(rt).commit(rt, seat, ask, txn);
+        let answer = calls::commit(&mut self.keeper.lock(rt), rt, seat, ask, txn);
         self.note(seat);
         answer
     }
@@ -121,9 +121,9 @@ impl<
         seat: &mut Seat<R, J, T>,
         ask: LockAsk,
     ) -> Result<(), ChangeFault>
-        ensures { Happens shared_rules (LocksAt shared_rules ask) seat.old result seat.new }
+        ensures { Answers (LocksAt shared_rules ask) seat.old result seat.new }
     {
-        let answer = self.keeper.lock(rt).lock(rt, seat, ask);
+        let answer = calls::lock(&mut self.keeper.lock(rt), rt, seat, ask);
         self.note(seat);
         answer
     }
@@ -135,9 +135,9 @@ impl<
         seat: &mut Seat<R, J, T>,
         ask: &UnlockAsk,
     ) -> Result<(), ChangeFault>
-        ensures { Happens shared_rules (UnlocksAt shared_rules ask.now) seat.old result seat.new }
+        ensures { Answers (UnlocksAt shared_rules ask.now) seat.old result seat.new }
     {
-        let answer = self.keeper.lock(rt).unlock(rt, seat, ask);
+        let answer = calls::unlock(&mut self.keeper.lock(rt), rt, seat, ask);
         self.note(seat);
         answer
     }
@@ -150,10 +150,9 @@ impl<
         seat: &mut Seat<R, J, T>,
         ask: PropertyAsk,
     ) -> Result<(), ChangeFault>
-        ensures { Happens shared_rules (ChangesPropertyAt shared_rules ask) seat.old result
-            seat.new }
+        ensures { Answers (ChangesPropertyAt shared_rules ask) seat.old result seat.new }
     {
-        let answer = self.keeper.lock(rt).change_property(rt, seat, ask);
+        let answer = calls::change_property(&mut self.keeper.lock(rt), rt, seat, ask);
         self.note(seat);
         answer
     }

@@ -36,10 +36,10 @@ save_failed e content next was now before after old new fault told goes_on by_de
     of_device : (b : Bool) → now ≡ b → fault ≡ store.Device → Goal told
     of_device true is by =
         let as_told = stops (λ x. cc) is in
-        subst Goal (sym as_told.0) (record { same = refl; halted = is; pending = as_told.1; risen = device by })
+        subst Goal (sym as_told.0) (record { same = record { first = refl; changes = refl; own = refl }; halted = is; pending = as_told.1; risen = device by })
     of_device false is by =
         let as_told = fails (λ x. cc) is in
-        subst Goal (sym as_told.0) (record { same = refl; halted = is ∙ sym goes_on; pending = as_told.1; risen = device by })
+        subst Goal (sym as_told.0) (record { same = record { first = refl; changes = refl; own = refl }; halted = is ∙ sym goes_on; pending = as_told.1; risen = device by })
 
     of_memory : (b : Bool) → now ≡ b → fault ≡ store.NoMemory → Goal told
     of_memory true is lacks = ⊎_elim (λ was_so. absurd (false≢true (sym goes_on ∙ was_so))) (λ by. absurd (cc)) (by_device is)

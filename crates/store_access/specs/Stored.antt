@@ -19,6 +19,7 @@ abbrev pub stored_at : RepoState → Bool → ℕ → Option Accepted → Point
 stored_at content halted failures pending = record {
   first = content;
   changes = [];
+  own = [];
   halted = halted;
   failures = failures;
   pending = pending;

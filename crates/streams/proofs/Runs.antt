@@ -1,10 +1,12 @@
 -- What is heard grows by a piece.
-use Rattle.std.proofs.{Common.{◌≡◌, ℕ, ◌<◌, ◌≤◌, true, List, [], ◌∷◌, ◌++◌, length, sym, subst, inr}, KnownBytes.{Consumes-trans, Appends-trans}}
+use Rattle.std.proofs.{Common.{◌≡◌, ℕ, ◌<◌, ◌≤◌, true, List, [], ◌∷◌, ◌++◌, length, sym, subst, inl, inr}, KnownBytes.{Consumes-trans, Appends-trans}}
 use Rattle.std.specs.{Prelude.{Option, Result, Ok, Err, IsErrAnd}, Io.KnownBytes.{Consumes, Appends}}
 use Rattle.machine.specs.declared.env.Env.{Env}
-use Rattle.hub.specs.Calls.{ConnectsAs, FeedsAs}
+use Rattle.hub.proofs.Sinks.{breaks_as, feeds_as}
+use Rattle.hub.specs.{Calls.{ConnectsAs, FedTo, FeedsAs}, declared.hub.HubFault.HubFault}
+use Rattle.hub_runs.specs.State.{HubState}
 use Rattle.streams.specs.{declared.fault.ServeFault.ServeFault, declared.fault.ServeFault.TheVariants.{Read, Write, Hub}}
-use Rattle.streams.specs.Stream.{Scene, HearsPieces, is_hearing, Answered, PieceSent, PiecesSent, StreamServed}
+use Rattle.streams.specs.Stream.{Scene, FeedsUnseen, HearsPieces, is_hearing, Answered, PieceSent, PiecesSent, StreamServed}
 use Rattle.conversations.specs.Pieces.{Piece, bytes_of, GivesAll}
 use Rattle.conversations.proofs.Growing.{fed_piece, gives_more, bytes_of-more}
 use Rattle.streams.proofs.Joining.{draws_more}
@@ -40,6 +42,12 @@ answered {E} gives n old greeted greeting connects unread written unasked new h 
   written = Appends-trans old.output greeted.output new.output greeting h.answers written h.written;
 }
 
+-- where it is not known what was written of what was heard
+pub unseen : {T : Type 0} (r : Result T HubFault) (old : HubState) (env : Env) (n : ℕ) (piece : List ℕ) (new : HubState) (writes : List ℕ → Type 0)
+    → FedTo r old env n piece new writes → FeedsUnseen old env n piece new
+unseen (Ok x) old env n piece new writes fed = inl (feeds_as old env n piece new writes (λ _. Unit {0}) (λ _ _. tt) fed)
+unseen (Err fault) old env n piece new writes fed = inr (fault, breaks_as old env n piece new writes (λ _. Unit {0}) (λ _ _. tt) fault fed)
+
 -- ---- what is known of a result
 
 abbrev pub as_err : (T : Type 0) → ServeFault → Result T ServeFault
@@ -49,7 +57,7 @@ handed : {T : Type 0} (K : Result T ServeFault → Type 0) (r : Result T ServeFa
 handed K (Ok x) e bad known = absurd bad
 handed K (Err x) e same known = subst (λ (y : ServeFault). K (Err y)) (sym same) known
 
--- serving ends by the fault of a feed, or nothing is known
+-- serving ends by the fault of a feed, or by a write that failed
 pub failed_at : {T E : Type 0} (U : Type 0) (r : Result T ServeFault) (e : ServeFault) (gives : E → Env → E → Type 0) (n : ℕ) (old mid new : Scene E) (env : Env) (bytes : List ℕ)
     → HearsPieces gives n old mid → is_hearing mid.hub n ≡ true → gives mid.envs env new.envs → Consumes mid.input new.input bytes
     → PieceSent (as_err U e) mid.hub env n bytes new.hub (Appends mid.output new.output) → IsErrAnd r (λ x. x ≡ e) → PiecesSent r gives n old new
@@ -58,7 +66,7 @@ failed_at {T} {E} U r e gives n old mid new env bytes h hearing given read sent 
   where
     by : (e : ServeFault) → PieceSent (as_err U e) mid.hub env n bytes new.hub (Appends mid.output new.output) → PiecesSent (as_err T e) gives n old new
     by (Read error) bad = absurd bad
-    by (Write error) none = tt
+    by (Write error) fed = (mid, h, record { hearing = hearing; env = env; given = given; bytes = bytes; read = read; fed = fed })
     by (Hub fault) fails = (mid, h, record { hearing = hearing; env = env; given = given; bytes = bytes; read = read; fails = fails })
 
 -- what happened to a greeted session happened to one that was connected
@@ -66,5 +74,18 @@ module _ {E T : Type 0} (gives : E → Env → E → Type 0) (n : ℕ) (old gree
   pub then_served : (r : Result T ServeFault) → PiecesSent r gives n greeted new → StreamServed r gives old new
   then_served (Ok x) (h, served) = (n, all new h, served)
   then_served (Err (Read error)) h = (n, all new h)
-  then_served (Err (Write error)) h = tt
+  then_served (Err (Write error)) (before, h, unwritten) = (n, inr (before, all before h, unwritten))
   then_served (Err (Hub fault)) (before, h, stops) = inr (n, before, all before h, stops)
+
+abbrev pub IsWrite : ServeFault → Type 0
+IsWrite (Read error) = ⊥
+IsWrite (Write error) = Unit {0}
+IsWrite (Hub fault) = ⊥
+
+-- a session was connected, and the write of its greeting failed
+pub greeting_unwritten : {E T : Type 0} (r : Result T ServeFault) (gives : E → Env → E → Type 0) (n : ℕ) (old new : Scene E) (greeting : List ℕ)
+    → ConnectsAs old.hub n greeting new.hub → new ≡ record old { hub = new.hub; output = new.output } → IsErrAnd r IsWrite → StreamServed r gives old new
+greeting_unwritten (Ok x) gives n old new greeting connects same bad = absurd bad
+greeting_unwritten (Err (Read error)) gives n old new greeting connects same bad = absurd bad
+greeting_unwritten (Err (Write error)) gives n old new greeting connects same is = (n, inl (greeting, connects, same))
+greeting_unwritten (Err (Hub fault)) gives n old new greeting connects same bad = absurd bad

@@ -90,6 +90,27 @@ abbrev pub HearsUntil : {E : Type 0} → (E → Env → E → Type 0) → ℕ �
 HearsUntil {E} gives n fault old new =
     (before : Scene E) × HearsPieces gives n old before × Stops gives n fault before new
 
+-- a piece was heard, or a part of it, and it is not known what was written then
+abbrev pub FeedsUnseen : HubState → Env → ℕ → List ℕ → HubState → Type 0
+FeedsUnseen old env n piece new =
+    FeedsTo old env n piece new (λ _. Unit {0})
+    ⊎ ((fault : HubFault) × FeedBreaks old env n piece fault new (λ _. Unit {0}))
+
+-- A piece was read for a session that hears what comes, and a write of what it draws failed.
+pub record IsUnwritten {E : Type 0} (gives : E → Env → E → Type 0) (n : ℕ) (old new : Scene E)
+    : Type 0 where
+  pub hearing : is_hearing old.hub n ≡ true
+  pub env : Env
+  pub given : gives old.envs env new.envs
+  pub bytes : List ℕ
+  pub read : Consumes old.input new.input bytes
+  pub fed : FeedsUnseen old.hub env n bytes new.hub
+
+-- pieces were answered, and at the next one a write failed
+abbrev pub HearsUnwritten : {E : Type 0} → (E → Env → E → Type 0) → ℕ → Scene E → Scene E → Type 0
+HearsUnwritten {E} gives n old new =
+    (before : Scene E) × HearsPieces gives n old before × IsUnwritten gives n before new
+
 -- A session was connected, and pieces of the input were sent to it. What was written is the
 -- greeting and what the
 -- pieces draw, and nothing else.
@@ -128,34 +149,40 @@ AnswersUntil {E} gives fault old new =
 abbrev pub HubFails : {E : Type 0} → (E → Env → E → Type 0) → HubFault → Scene E → Scene E → Type 0
 HubFails gives fault old new = IsTurnedAway fault old new ⊎ AnswersUntil gives fault old new
 
--- What is known by how serving ended: well; by a read that failed; or by a hub's fault. Where a
--- write failed nothing is known.
-abbrev pub MatchServe : {T : Type 0} → Result T ServeFault → Type 0 → Type 0 → (HubFault → Type 0)
-    → Type 0
-MatchServe (Ok x) well unread failed = well
-MatchServe (Err (Read error)) well unread failed = unread
-MatchServe (Err (Write error)) well unread failed = Unit {0}
-MatchServe (Err (Hub fault)) well unread failed = failed fault
+-- a write failed: that of the greeting of a session that was connected, and nothing was read; or behind it, at a piece
+abbrev pub WriteFails : {E : Type 0} → (E → Env → E → Type 0) → Scene E → Scene E → Type 0
+WriteFails {E} gives old new =
+    (n : ℕ) × (((greeting : List ℕ) × ConnectsAs old.hub n greeting new.hub
+    × (new ≡ record old { hub = new.hub; output = new.output }))
+    ⊎ ((before : Scene E) × Answered gives n old before × IsUnwritten gives n before new))
 
--- A piece was sent to a session of the hub, and what it causes was written; or the hub failed at
--- it. No read is made.
+-- What is known by how serving ended: well; by a read that failed; by a write that failed; or by a hub's fault.
+abbrev pub MatchServe : {T : Type 0} → Result T ServeFault → Type 0 → Type 0 → Type 0
+    → (HubFault → Type 0) → Type 0
+MatchServe (Ok x) well unread unwritten failed = well
+MatchServe (Err (Read error)) well unread unwritten failed = unread
+MatchServe (Err (Write error)) well unread unwritten failed = unwritten
+MatchServe (Err (Hub fault)) well unread unwritten failed = failed fault
+
+-- A piece was sent to a session of the hub, and what it causes was written, or is not known, where a write failed; or
+-- the hub failed at it. No read is made.
 abbrev pub PieceSent : {T : Type 0} → Result T ServeFault → HubState → Env → ℕ → List ℕ → HubState
     → (List ℕ → Type 0) → Type 0
 PieceSent r old env n piece new writes =
-    MatchServe r (FeedsTo old env n piece new writes) ⊥
+    MatchServe r (FeedsTo old env n piece new writes) ⊥ (FeedsUnseen old env n piece new)
     (λ fault. FeedBreaks old env n piece fault new writes)
 
 -- A session was sent its input: to the end, or as long as it hears what comes; as far as it was
--- read; or up to the piece at which the hub failed.
+-- read; or up to the piece at which a write or the hub failed.
 abbrev pub PiecesSent : {T E : Type 0} → Result T ServeFault → (E → Env → E → Type 0) → ℕ → Scene E
     → Scene E → Type 0
 PiecesSent r gives n old new =
     MatchServe r (HearsPieces gives n old new × IsServed n new) (HearsPieces gives n old new)
-    (λ fault. HearsUntil gives n fault old new)
+    (HearsUnwritten gives n old new) (λ fault. HearsUntil gives n fault old new)
 
 -- A session was connected and greeted, and was sent its input so.
 abbrev pub StreamServed : {T E : Type 0} → Result T ServeFault → (E → Env → E → Type 0) → Scene E
     → Scene E → Type 0
 StreamServed r gives old new =
     MatchServe r (ServesStreams gives old new) (AnswersStream gives old new)
-    (λ fault. HubFails gives fault old new)
+    (WriteFails gives old new) (λ fault. HubFails gives fault old new)

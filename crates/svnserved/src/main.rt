@@ -1,6 +1,8 @@
 //! Serves a Subversion repository.
 #![tactic(auto)]
 
+ghost use Rattle.std.specs.Prelude.{◌≡◌, IfOk, None};
+
 mod fault;
 mod migrating;
 mod repositories;
@@ -59,7 +61,10 @@ fn order(rt: &HostRuntime) -> Result<Option<Order>, ProgramFault> {
 }
 
 /// Makes the options of a repository of this name, whose clients may change the properties of revisions or not.
-fn options(alloc: Global, name: &str, revprops: bool) -> Result<Options, ProgramFault> {
+fn options(alloc: Global, name: &str, revprops: bool) -> Result<Options, ProgramFault>
+    ensures { IfOk result (λ o. o
+        ≡ record { name = name.now; users = None; revprops = revprops }) }
+{
     if !is_repository_name(name) {
         return Err(ProgramFault::Name);
     }

@@ -208,8 +208,8 @@ static WITH_USERS: [(&[u8], &[u8], &[u8]); 10] = [
     (b"[users]\ntim==\n", b"tim", b"="),
     (b"[users]\n[users] = x\n", b"[users]", b"x"),
     (
-        b"[users]\nt\x00\xff = \x80\x00\xfe\n",
-        b"t\x00\xff",
+        b"[users]\nt\x01\xff = \x80\x00\xfe\n",
+        b"t\x01\xff",
         b"\x80\x00\xfe",
     ),
     (b"[users]\ntim = x\ry\r", b"tim", b"x\ry\r"),
@@ -236,7 +236,7 @@ fn reads_files_without_users(rt: HostRuntime) {
 }
 
 // Each file with its first line that breaks a rule.
-static FAULTY: [(&[u8], usize); 17] = [
+static FAULTY: [(&[u8], usize); 18] = [
     (b"a = b", 1),
     (b"[users]\ntim = x\ntim = y", 3),
     (b"[users]\ntim = x\n\n# twice\n[users]\n", 5),
@@ -246,6 +246,7 @@ static FAULTY: [(&[u8], usize); 17] = [
     (b"[users]\nti m = x\n", 2),
     (b"[users]\n tim = x\n", 2),
     (b"[users]\n\ttim = x\n", 2),
+    (b"[users]\nt\x00im = x\n", 2),
     (b"[users]\n = x\n", 2),
     (b"[users]\ntim = \n", 2),
     (b"[users]\ntim =", 2),

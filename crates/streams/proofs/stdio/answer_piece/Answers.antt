@@ -2,6 +2,7 @@ use Rattle.std.proofs.Common.{◌∙◌, rules}
 use Rattle.std.specs.Io.KnownBytes.{Appends}
 use Rattle.hub.proofs.Sinks.{breaks_as}
 use Rattle.conversations.proofs.Gathered.{all_written}
+use Rattle.streams.proofs.Runs.{unseen}
 use Rattle.streams.proofs.stdio.answer_piece.Goals as goal
 
 pub returns-in-Ok-fed : goal.returns-in-Ok-fed
@@ -28,3 +29,6 @@ returns-in-Ok g c =
     let landed : Appends (contents c.args.output.now) (contents u.output.now) bytes =
     all_written (contents c.args.output.now) (contents t.output.now) (contents u.output.now) c.new-buffer.result.items t.buffer.items bytes c.new-buffer.ensures.items gathered c.in-Ok.ensures.written in
     search rules) c.in-Err-fed.fault c.in-Err-fed.ensures
+
+pub returns : goal.returns
+returns g c = unseen c.feed_to-fed.result c.args.hub.now c.args.env c.args.number c.args.piece.now c.feed_to-fed.new.self _ c.feed_to-fed.ensures

@@ -1,9 +1,9 @@
-use Rattle.std.proofs.Common.{ℕ, List, refl, subst}
+use Rattle.std.proofs.Common.{ℕ, List, refl, rules, subst}
 use Rattle.std.specs.{Prelude.{IfOk, OnOk}, Io.KnownBytes.Appends}
 use Rattle.hub.specs.Calls.{ConnectsAs}
 use Rattle.streams.specs.Stream.{scene}
 use Rattle.conversations.proofs.Conversing.{was_ok}
-use Rattle.streams.proofs.Runs.{answered, then_served}
+use Rattle.streams.proofs.Runs.{answered, greeting_unwritten, then_served}
 use Rattle.streams.proofs.stdio.run_stdio.Goals as goal
 
 pub returns : goal.returns
@@ -21,3 +21,14 @@ returns g c =
     let all = answered g.E.EnvSource.gives n old greeted c.in_ok-number.greeting.items connects refl written refl in
     let new = scene c.serve_pieces.new.hub (remaining c.serve_pieces.new.input) (contents c.serve_pieces.new.output) c.serve_pieces.new.envs in
     then_served g.E.EnvSource.gives n old greeted new all c.serve_pieces.result c.serve_pieces.ensures
+
+pub returns-in_err-map_err : goal.returns-in_err-map_err
+returns-in_err-map_err g c =
+    let remaining = g.R.Read.remaining in
+    let contents = g.W.Write.contents in
+    let n = c.in_ok-number.number in
+    let old = scene c.args.hub.now (remaining c.args.input.now) (contents c.args.output.now) c.args.envs.now in
+    let greeted = scene c.connect.new.self (remaining c.args.input.now) (contents c.write_and_flush.new.output) c.args.envs.now in
+    let connected = was_ok _ c.connect.result (n, c.in_ok-number.greeting) c.in_ok-number.ensures.cases in
+    let connects = subst (λ r. IfOk r (λ x. ConnectsAs c.args.hub.now x.0 x.1.items c.connect.new.self)) connected c.connect.ensures.ok in
+    greeting_unwritten c.from_residual-in_err-map_err.result g.E.EnvSource.gives n old greeted c.in_ok-number.greeting.items connects refl (search rules)

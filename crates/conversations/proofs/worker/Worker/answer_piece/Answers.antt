@@ -1,7 +1,7 @@
-use Rattle.std.proofs.Common.{◌∙◌, rules}
+use Rattle.std.proofs.Common.{◌∙◌, ◌++◌, rules}
 use Rattle.std.specs.Io.KnownBytes.{Appends}
 use Rattle.wire_replies.specs.Replies.{print}
-use Rattle.conversations.proofs.Gathered.{all_written}
+use Rattle.conversations.proofs.{Conversing.{on_err, unwritten}, Gathered.all_written}
 use Rattle.conversations.proofs.worker.Worker.answer_piece.Goals as goal
 
 pub returns-in-Ok-fed-clause-fed : goal.returns-in-Ok-fed-clause-fed
@@ -53,3 +53,10 @@ returns-in-Ok-clause-fed g c =
         wrote = search rules;
       };
     }
+
+pub returns-clause-fed : goal.returns-clause-fed
+returns-clause-fed g c =
+    let old = c.args.session.now in
+    let new = c.feed-fed.new.self in
+    unwritten c.feed-fed.result g.A.RepoAccess.rules c.args.self.now.options.now c.args.env (g.A.RepoAccess.point c.args.self.now.access) (g.A.RepoAccess.point c.feed-fed.new.access)
+    old.phase new.phase (old.rest ++ c.args.piece.now) new.rest _ c.feed-fed.ensures.ok (on_err _ _ c.feed-fed.result c.requires.open c.feed-fed.ensures.lost)

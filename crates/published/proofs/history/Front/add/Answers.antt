@@ -1,4 +1,4 @@
-use Rattle.std.proofs.Common.{sym, ◌∙◌, ap}
+use Rattle.std.proofs.Common.{◌≡◌, sym, ◌∙◌, ap, length}
 use Rattle.published.specs.Events.{MayFollow}
 use Rattle.published.proofs.Adding.{adds_moves}
 use Rattle.published.proofs.history.Front.add.Goals as goal
@@ -8,10 +8,12 @@ compare_exchange-found-requires g c =
     let h = c.args.book.now.head_is in
     let offer = c.plain-offer.ensures in
     let pen = c.no_pen-pen.ensures in
-    let may : MayFollow c.self.inside.seen.log c.plain-offer.result.ask = rw (c.self.view_is, offer.1) c.requires.may.0 in (
+    let book : c.again-seen.result.book ≡ g.J.Naming.book = ap (λ s. s.book) c.again-seen.ensures ∙ c.self.invariant.1 in
+    let log : c.again-seen.result.log ≡ c.self.inside.seen.log = ap (λ s. s.log) c.again-seen.ensures in
+    let may : MayFollow c.again-seen.result.log c.plain-offer.result.ask = rw (log, c.self.view_is, offer.1) c.requires.may.0 in (
       ap (λ w. w.tracked) h,
-      c.self.invariant.1 ∙ sym (ap (λ w. w.book) h),
-      pen.0 ∙ (c.self.invariant.1 ∙ sym (ap (λ w. w.book) h)),
+      book ∙ sym (ap (λ w. w.book) h),
+      pen.0 ∙ (book ∙ sym (ap (λ w. w.book) h)),
       offer.0,
-      rw (ap (λ w. w.key) h, pen.1, offer.3 ∙ c.requires.may.1) (adds_moves c.self.inside.seen.log c.plain-offer.result.ask c.self.inside.events (sym c.self.invariant.0) may),
+      rw (ap (λ w. w.key) h, pen.1, offer.3 ∙ c.requires.may.1) (adds_moves c.again-seen.result.log c.plain-offer.result.ask c.self.inside.events (ap (λ l. length l) log ∙ sym c.self.invariant.0) may),
     )

@@ -1,0 +1,2 @@
+pub mod Archives
+pub mod Showing

@@ -1,0 +1,273 @@
+//! Connections as they come: each becomes a session, waits for a place, or is turned away.
+
+use crate::clients::{Client, caller_of, prepare};
+use crate::clock::millis_now;
+use crate::events::Event;
+use crate::refusing::turn_away;
+use crate::registry::Registry;
+use crossbeam_channel::Sender;
+use refusals::Refusal;
+use session_pool::{Admission, MAX_SESSIONS, SessionPool};
+use std::alloc::Global;
+use std::collections::VecDeque;
+use std::net::{IpAddr, SocketAddr, TcpListener, TcpStream};
+use std::sync::Wait;
+use std::thread;
+use std::time::{Clock, Duration};
+
+/// How many clients wait for a place at most.
+pub const MAX_WAITING: usize = 64;
+
+/// How long a client waits for a place, in milliseconds.
+const WAIT_LIMIT: u64 = 5_000;
+
+/// How long a client waits whose address has as many sessions as it may have, in milliseconds: who has closed a session and
+/// comes again at once finds its own place free. One of an address waits so at a time.
+const RETURN_LIMIT: u64 = 20;
+
+/// How long the listener sleeps while clients wait for a place and none comes, in milliseconds.
+const TURN: u64 = 2;
+
+/// What may come to a halt.
+pub trait Halts {
+    /// Says whether changes are known to have come to a halt. It waits for nobody.
+    fn takes_no_changes(&self) -> bool;
+}
+
+/// Where so many connections come in, so many of one address at a time, with what is known of those that have places, and what
+/// may come to a halt.
+#[derive(Drop)]
+pub struct Entrance<'a, R, H: Drop> {
+    pub rt: &'a R,
+    pub alloc: Global,
+    pub listener: &'a TcpListener,
+    pub connections: usize,
+    pub per_address: u64,
+    pub registry: Registry<'a, R>,
+    pub repository: H,
+}
+
+/// A client that has come, and until when it waits for a place.
+#[derive(Drop)]
+struct Newcomer {
+    stream: TcpStream,
+    peer: SocketAddr,
+    until: u64,
+}
+
+/// What takes connections, and keeps those that wait for a place, in the order in which they have come.
+#[derive(Drop)]
+struct Acceptor<'s, 'e, R, H: Drop> {
+    entrance: &'e Entrance<'e, R, H>,
+    pool: &'s SessionPool<'s, Registry<'s, R>, Registry<'s, R>>,
+    callers: &'s Sender<Client<'e, R>>,
+    queue: VecDeque<Newcomer>,
+    left: usize,
+}
+
+impl<'s, 'e, R: Wait + Clock, H: Halts + Drop> Acceptor<'s, 'e, R, H> {
+    /// Says whether an address has as many sessions as it may have, where it may not have all.
+    fn is_full(&self, address: IpAddr) -> bool {
+        let limit = self.entrance.per_address;
+        limit < MAX_SESSIONS && self.entrance.registry.sessions_of(address) >= limit
+    }
+
+    /// Counts the sessions of an address and its clients that wait for a place.
+    fn count_of(&self, address: IpAddr) -> u64 {
+        let mut count = self.entrance.registry.sessions_of(address);
+        for newcomer in self.queue.iter() {
+            if newcomer.peer.ip() == address {
+                count = u64::saturating_add(count, 1);
+            }
+        }
+        count
+    }
+
+    /// Says how long a client of an address may wait for a place, in milliseconds; none where its address has too many.
+    fn patience_for(&self, address: IpAddr) -> Option<u64> {
+        let limit = self.entrance.per_address;
+        if limit >= MAX_SESSIONS {
+            return Some(WAIT_LIMIT);
+        }
+        let count = self.count_of(address);
+        if count < limit {
+            Some(WAIT_LIMIT)
+        } else if count == limit {
+            Some(RETURN_LIMIT)
+        } else {
+            None
+        }
+    }
+
+    /// Says whether a connection of an address becomes a session now. None does once changes have come to a halt, also while the
+    /// session that met it is open.
+    fn admit(&self, address: IpAddr) -> Admission {
+        if self.entrance.repository.takes_no_changes() {
+            Admission::Halted
+        } else if self.is_full(address) {
+            Admission::Full
+        } else {
+            self.pool.admit(self.entrance.rt)
+        }
+    }
+
+    /// Says whether a connection is on its way to a worker.
+    fn hand_over(&self, stream: TcpStream, number: u64) -> bool {
+        let (alloc, registry) = (self.entrance.alloc, &self.entrance.registry);
+        match caller_of(alloc, registry, stream, number) {
+            Ok(caller) => self.callers.send(self.entrance.rt, caller).is_ok(),
+            Err(_) => false,
+        }
+    }
+
+    /// Makes a connection a session of this number. Where there is no memory for it, it is closed.
+    fn begin(&self, newcomer: Newcomer, number: u64) {
+        let Newcomer {
+            stream,
+            peer,
+            until: _,
+        } = newcomer;
+        if self.entrance.registry.begins(number, peer).is_err() {
+            self.pool.leave(self.entrance.rt);
+            return;
+        }
+        if !self.hand_over(stream, number) {
+            self.pool.leave(self.entrance.rt);
+            self.entrance.registry.ends(number);
+        }
+    }
+
+    /// Tells of a client that it is not served, and tells the client why. Where there is no memory for that the connection is closed
+    /// without it.
+    fn refuse(&self, stream: &TcpStream, event: Event) {
+        self.entrance.registry.tell(event);
+        let refusal = match event {
+            Event::TurnedAway(_) => Refusal::StoreFailed,
+            _ => Refusal::NotSupported,
+        };
+        let _ = turn_away(self.entrance.alloc, stream, refusal);
+    }
+
+    /// Turns a client away that finds no place.
+    fn refuse_full(&self, newcomer: &Newcomer) {
+        let event = if self.is_full(newcomer.peer.ip()) {
+            Event::AddressFull(newcomer.peer)
+        } else {
+            Event::Full(newcomer.peer)
+        };
+        self.refuse(&newcomer.stream, event);
+    }
+
+    /// Makes a client's connection a session, or turns it away, and gives it back where it waits for a place.
+    fn settle(&self, newcomer: Newcomer, now: u64) -> Option<Newcomer> {
+        match self.admit(newcomer.peer.ip()) {
+            Admission::Session(number) => {
+                self.begin(newcomer, number);
+                None
+            }
+            Admission::Halted => {
+                self.refuse(&newcomer.stream, Event::TurnedAway(newcomer.peer));
+                None
+            }
+            Admission::Full if now < newcomer.until => Some(newcomer),
+            Admission::Full => {
+                self.refuse_full(&newcomer);
+                None
+            }
+        }
+    }
+
+    /// Lets a client wait after all others. Where too many wait it is turned away, and where there is no memory it is closed.
+    fn put(&mut self, newcomer: Newcomer) {
+        if self.queue.len() >= MAX_WAITING {
+            self.refuse_full(&newcomer);
+            return;
+        }
+        let _ = self.queue.push_back(newcomer);
+    }
+
+    /// Looks once at each client that waits, those first that wait longest.
+    fn look(&mut self) {
+        let now = millis_now(self.entrance.rt);
+        let mut wanted: usize = 0;
+        for _ in 0..self.queue.len() {
+            let Some(newcomer) = self.queue.pop_front() else {
+                break;
+            };
+            if let Some(newcomer) = self.settle(newcomer, now) {
+                if !self.is_full(newcomer.peer.ip()) {
+                    wanted = wanted.saturating_add(1);
+                }
+                self.put(newcomer);
+            }
+        }
+        self.entrance.registry.want(wanted);
+    }
+
+    /// Takes a client that has come: it becomes a session, waits for a place, or is turned away.
+    fn take(&mut self, stream: TcpStream, peer: SocketAddr) {
+        if prepare(&stream).is_err() {
+            return;
+        }
+        let Some(patience) = self.patience_for(peer.ip()) else {
+            self.refuse(&stream, Event::AddressFull(peer));
+            return;
+        };
+        let now = millis_now(self.entrance.rt);
+        let newcomer = Newcomer {
+            stream,
+            peer,
+            until: now.saturating_add(patience),
+        };
+        if !self.queue.is_empty() {
+            self.put(newcomer);
+        } else if let Some(newcomer) = self.settle(newcomer, now) {
+            self.put(newcomer);
+        }
+    }
+
+    /// Takes a connection that has come, and says whether there was one. While no client waits for a place it waits for one.
+    fn accept(&mut self) -> bool {
+        if self.left == 0 {
+            return false;
+        }
+        let listener = self.entrance.listener;
+        // where the mode cannot be set, it is as it was
+        let _ = listener.set_nonblocking(!self.queue.is_empty());
+        let Ok((stream, peer)) = listener.accept() else {
+            return false;
+        };
+        self.left = self.left.saturating_sub(1);
+        self.take(stream, peer);
+        true
+    }
+
+    /// Takes connections until no more are to be taken and nobody waits for a place.
+    fn run(&mut self) {
+        for _ in self.entrance.rt.forever() {
+            self.look();
+            if self.left == 0 && self.queue.is_empty() {
+                return;
+            }
+            if !self.accept() {
+                thread::sleep(self.entrance.rt, Duration::from_millis(TURN));
+            }
+        }
+    }
+}
+
+/// Takes connections as they come.
+pub fn take_all<'e, R: Wait + Clock, H: Halts + Drop>(
+    entrance: &'e Entrance<'e, R, H>,
+    pool: &SessionPool<'_, Registry<'_, R>, Registry<'_, R>>,
+    callers: &Sender<Client<'e, R>>,
+) {
+    let mut acceptor = Acceptor {
+        entrance,
+        pool,
+        callers,
+        queue: VecDeque::new(entrance.alloc),
+        left: entrance.connections,
+    };
+    acceptor.run();
+}

@@ -1,0 +1,148 @@
+//! A client's connection: what is read of it, and what is written to it.
+
+use crate::registry::Registry;
+use presence::{Connection, has_gone};
+use session_pool::Caller;
+use std::alloc::{AllocError, Global};
+use std::io::{ErrorKind, Read, Write};
+use std::net::TcpStream;
+use std::sync::{Arc, Wait};
+use std::time::{Clock, Duration};
+use std::{io, thread};
+
+/// How long a read waits before its session asks whether it is to end, in milliseconds.
+const READ_TURN: u64 = 250;
+
+/// How long a write waits, in seconds.
+const WRITE_TURN: u64 = 1;
+
+/// How often a write that moves no byte is tried: so many turns a client may take nothing of what it is sent.
+const WRITE_TURNS: u64 = 60;
+
+/// How long a session that reads nothing for a while sleeps before it looks whether its client is there, in milliseconds.
+const REST_TURN: u64 = 100;
+
+/// A client that has come, on its way to a worker.
+pub type Client<'a, R> = Caller<ClientInput<'a, R>, ClientOutput, Connection>;
+
+/// Sets what each connection has: replies go out at once, and nobody waits for a client for long.
+pub(crate) fn prepare(stream: &TcpStream) -> io::Result<()> {
+    stream.set_nodelay(true)?;
+    stream.set_read_timeout(Some(Duration::from_millis(READ_TURN)))?;
+    stream.set_write_timeout(Some(Duration::from_secs(WRITE_TURN)))
+}
+
+/// Makes the caller of a connection.
+pub(crate) fn caller_of<'a, R>(
+    alloc: Global,
+    registry: &'a Registry<'a, R>,
+    stream: TcpStream,
+    number: u64,
+) -> Result<Client<'a, R>, AllocError> {
+    let stream = Arc::new(alloc, stream)?;
+    let output = ClientOutput {
+        stream: Arc::try_clone(&stream)?,
+    };
+    let client = Connection::new(Arc::try_clone(&stream)?);
+    let input = ClientInput {
+        stream,
+        registry,
+        session: number,
+    };
+    Ok(Caller {
+        number,
+        input,
+        output,
+        client: Some(client),
+    })
+}
+
+/// Says whether a call has ended because its time was over.
+fn is_of_time(done: &io::Result<usize>) -> bool {
+    match done {
+        Ok(_) => false,
+        Err(error) => error.kind() == ErrorKind::WouldBlock,
+    }
+}
+
+/// What a client sends. Where its session is to end, because the client sends nothing, it ends.
+pub struct ClientInput<'a, R> {
+    stream: Arc<TcpStream>,
+    registry: &'a Registry<'a, R>,
+    session: u64,
+}
+
+impl<'a, R> Drop for ClientInput<'a, R> {
+    fn drop(self) {
+        let ClientInput {
+            stream: _,
+            registry: _,
+            session: _,
+        } = self;
+    }
+}
+
+impl<'a, R: Clock + Wait> ClientInput<'a, R> {
+    /// Waits for as long as the session reads nothing, and says whether the client is still there.
+    fn rest(&self) -> bool {
+        for _ in 0..u64::MAX {
+            let left = self.registry.rest_of(self.session);
+            if left == 0 {
+                return true;
+            }
+            if has_gone(self.stream.as_ref()) {
+                return false;
+            }
+            let turn = Duration::from_millis(left.min(REST_TURN));
+            thread::sleep(self.registry.runtime(), turn);
+        }
+        true
+    }
+}
+
+impl<'a, R: Clock + Wait> Read for ClientInput<'a, R> {
+    fn read(&mut self, buf: &mut [u8]) -> io::Result<usize> {
+        if !self.rest() {
+            return Ok(0);
+        }
+        let mut stream = self.stream.as_ref();
+        for _ in 0..u64::MAX {
+            if self.registry.is_to_end(self.session) {
+                return Ok(0);
+            }
+            let done = stream.read(buf);
+            if !is_of_time(&done) {
+                return done;
+            }
+        }
+        Ok(0)
+    }
+}
+
+/// What a client is sent. A client that takes nothing of it for a minute is given up.
+pub struct ClientOutput {
+    stream: Arc<TcpStream>,
+}
+
+impl Drop for ClientOutput {
+    fn drop(self) {
+        let ClientOutput { stream: _ } = self;
+    }
+}
+
+impl Write for ClientOutput {
+    fn write(&mut self, buf: &[u8]) -> io::Result<usize> {
+        let mut stream = self.stream.as_ref();
+        for _ in 0..WRITE_TURNS {
+            let done = stream.write(buf);
+            if !is_of_time(&done) {
+                return done;
+            }
+        }
+        Err(io::Error::from(ErrorKind::TimedOut))
+    }
+
+    fn flush(&mut self) -> io::Result<()> {
+        Ok(())
+    }
+}

@@ -1,0 +1,17 @@
+//! Connections as they come: each becomes a session, waits for a place, or is turned away; and what is known of those that have
+//! places.
+#![tactic(auto)]
+
+mod accepting;
+mod clients;
+mod clock;
+mod events;
+mod limits;
+mod refusing;
+mod registry;
+
+pub use accepting::{Entrance, Halts, MAX_WAITING, take_all};
+pub use clients::{Client, ClientInput, ClientOutput};
+pub use events::Event;
+pub use limits::{FILES_NEEDED, too_few_files};
+pub use registry::Registry;

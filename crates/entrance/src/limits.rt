@@ -1,0 +1,42 @@
+//! How many files the process may have open at a time.
+ghost use Rattle.std.specs.Prelude.{◌≤◌, IfOk, length};
+
+use crate::accepting::MAX_WAITING;
+use session_pool::MAX_SESSIONS;
+use std::fs::{File, Files};
+use std::io::{self, Read};
+
+/// How many files the server has open at most: the standard streams, the listener, the lock of the folder, one for each session
+/// and for each client that waits for a place, a connection that is judged, and a file that is written.
+pub const FILES_NEEDED: u64 = 3 + 2 + MAX_SESSIONS + MAX_WAITING as u64 + 2;
+
+/// The file in which the system tells a process of its limits.
+const LIMITS: &str = "/proc/self/limits";
+
+/// How the line of the limit of open files begins.
+const OPEN_FILES: &str = "Max open files";
+
+/// Reads the beginning of a file, as long as the room for it, and gives its length.
+fn read_beginning<R: Files>(rt: &R, path: &str, room: &mut [u8]) -> io::Result<usize>
+    ensures { IfOk result (λ count. count ≤ length room.new) }
+{
+    File::open(rt, path)?.read(room)
+}
+
+/// Finds how many files may be open in the text of a process's limits; none where it names no number.
+fn files_of(limits: &str) -> Option<u64> {
+    for line in limits.lines() {
+        if let Some(numbers) = line.strip_prefix(OPEN_FILES) {
+            return numbers.split_whitespace().next()?.parse::<u64>().ok();
+        }
+    }
+    None
+}
+
+/// Gives how many files the process may have open, if that is known and fewer than the server needs.
+pub fn too_few_files<R: Files>(rt: &R) -> Option<u64> {
+    let mut room = [0; 4096];
+    let count = read_beginning(rt, LIMITS, &mut room).ok()?;
+    let limits = str::from_utf8(&room[..count]).ok()?;
+    files_of(limits).filter(|files| *files < FILES_NEEDED)
+}

@@ -1,0 +1,175 @@
+//! What is known of the sessions that are open.
+
+use crate::clock::millis_now;
+use crate::events::Event;
+use conversations::{Awaited, Gate, TalkFault, Watch};
+use guests::Guests;
+use journals::Journal;
+use session_pool::MAX_SESSIONS;
+use std::alloc::{AllocError, Global};
+use std::io::Eprint;
+use std::net::{IpAddr, SocketAddr};
+use std::sync::atomic::{AtomicBool, Ordering};
+use std::sync::{Mutex, Wait};
+use std::time::Clock;
+
+/// How long a session in which a login was refused waits before it reads on, in milliseconds: so passwords are not guessed
+/// fast.
+const REFUSED_REST: u64 = 1_000;
+
+/// Knows which sessions are open, and what each awaits, and tells of them.
+pub struct Registry<'a, R> {
+    rt: &'a R,
+    alloc: Global,
+    journal: Journal<'a, R>,
+    told_of_halt: AtomicBool,
+    guests: Mutex<Guests>,
+}
+
+impl<'a, R> Drop for Registry<'a, R> {
+    fn drop(self) {
+        let Registry {
+            rt: _,
+            alloc: _,
+            journal: _,
+            told_of_halt: _,
+            guests: _,
+        } = self;
+    }
+}
+
+/// Makes a number of an IPv4 address; of another it is 0.
+fn number_of(address: IpAddr) -> u32 {
+    match address {
+        IpAddr::V4(address) => address.to_bits(),
+        IpAddr::V6(_) => 0,
+    }
+}
+
+impl<'a, R> Registry<'a, R> {
+    /// Makes a registry of no sessions, which tells of them in a journal.
+    pub fn new(rt: &'a R, alloc: Global, journal: Journal<'a, R>) -> Self {
+        Registry {
+            rt,
+            alloc,
+            journal,
+            told_of_halt: AtomicBool::new(false),
+            guests: Mutex::new(Guests::new(alloc)),
+        }
+    }
+
+    /// Says whether nothing is told.
+    pub fn is_quiet(&self) -> bool {
+        self.journal.is_quiet()
+    }
+
+    /// Gives the runtime.
+    pub(crate) fn runtime(&self) -> &'a R {
+        self.rt
+    }
+}
+
+impl<'a, R: Eprint + Clock> Registry<'a, R> {
+    /// Tells an event at once, before any session begins.
+    pub fn tell_first(&self, event: Event) {
+        self.journal.write_now(event.text(self.alloc));
+    }
+}
+
+impl<'a, R: Clock + Wait> Registry<'a, R> {
+    /// Tells an event.
+    pub(crate) fn tell(&self, event: Event) {
+        if !self.is_quiet() {
+            self.journal.tell(event.text(self.alloc));
+        }
+    }
+
+    /// Counts the sessions of an address.
+    pub(crate) fn sessions_of(&self, address: IpAddr) -> u64 {
+        self.guests.lock(self.rt).count_of(number_of(address))
+    }
+
+    /// Notes that a session begins, and tells it.
+    pub(crate) fn begins(&self, session: u64, peer: SocketAddr) -> Result<(), AllocError> {
+        let (address, now) = (number_of(peer.ip()), millis_now(self.rt));
+        self.guests.lock(self.rt).come(session, address, now)?;
+        self.tell(Event::Begins(session, peer));
+        Ok(())
+    }
+
+    /// Notes that a session has ended, and tells it.
+    pub(crate) fn ends(&self, session: u64) {
+        self.guests.lock(self.rt).go(session);
+        self.tell(Event::Ends(session));
+    }
+
+    /// Notes how many clients wait for a place.
+    pub(crate) fn want(&self, wanted: usize) {
+        self.guests.lock(self.rt).want(wanted);
+    }
+
+    /// Says for how many milliseconds a session still reads nothing.
+    pub(crate) fn rest_of(&self, session: u64) -> u64 {
+        let now = millis_now(self.rt);
+        self.guests.lock(self.rt).rest_of(session, now)
+    }
+
+    /// Says whether a session is to end because its client sends nothing, and tells why.
+    pub(crate) fn is_to_end(&self, session: u64) -> bool {
+        let now = millis_now(self.rt);
+        let ending = self
+            .guests
+            .lock(self.rt)
+            .ending_of(session, MAX_SESSIONS as usize, now);
+        match ending {
+            Some(ending) => {
+                self.tell(Event::Ended(session, ending));
+                true
+            }
+            None => false,
+        }
+    }
+}
+
+impl<'a, R: Clock + Wait> Gate for Registry<'a, R> {
+    fn awaits(&self, session: u64, awaited: Awaited) {
+        let now = millis_now(self.rt);
+        self.guests.lock(self.rt).awaits(session, awaited, now);
+    }
+
+    fn pass(&self, session: u64, _piece: u64) {
+        self.guests.lock(self.rt).hears(session);
+    }
+}
+
+impl<'a, R: Clock + Wait> Watch for Registry<'a, R> {
+    fn logged_in(&self, session: u64, user: &[u8]) {
+        if !self.is_quiet() {
+            let user = user.escape_ascii();
+            self.journal.tell(format!(in self.alloc; "session {session} logs in as {user}"));
+        }
+    }
+
+    fn refused(&self, session: u64, logins: u64) {
+        if !self.is_quiet() {
+            self.journal.tell(format!(in self.alloc;
+                "session {session} has logins refused: {logins}"
+            ));
+        }
+        let until = millis_now(self.rt).saturating_add(REFUSED_REST);
+        self.guests.lock(self.rt).rest(session, until);
+    }
+
+    fn given_up(&self, session: u64, fault: &TalkFault) {
+        if !self.is_quiet() {
+            self.journal.tell(format!(in self.alloc; "session {session} is given up: {fault}"));
+        }
+    }
+
+    fn ended(&self, session: u64, is_halted: bool) {
+        self.ends(session);
+        if is_halted && !self.told_of_halt.swap(true, Ordering::SeqCst) {
+            self.tell(Event::StoreFailed);
+        }
+    }
+}

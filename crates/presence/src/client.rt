@@ -1,0 +1,12 @@
+//! Whether a client is still there.
+use std::alloc::AllocError;
+
+/// What can be asked whether a client is still there. No promise rests on the answer: where it says that the client has
+/// gone, its session ends early.
+pub trait Presence: Drop {
+    /// Makes another of the same client.
+    fn share(&self) -> Result<Self, AllocError>;
+
+    /// Says whether the client has gone.
+    fn is_gone(&self) -> bool;
+}

@@ -1,0 +1,55 @@
+//! A client at the other end of a connection.
+use crate::client::Presence;
+use std::alloc::AllocError;
+use std::io::ErrorKind;
+use std::net::TcpStream;
+use std::sync::Arc;
+
+/// A client at the other end of a connection. It has gone where the connection has failed, or where it sends nothing
+/// more and all that it has sent was read.
+pub struct Connection {
+    stream: Arc<TcpStream>,
+}
+
+impl Drop for Connection {
+    fn drop(self) {
+        let Connection { stream: _ } = self;
+    }
+}
+
+impl Connection {
+    /// Takes the stream of a connection.
+    pub fn new(stream: Arc<TcpStream>) -> Self {
+        Connection { stream }
+    }
+}
+
+/// Says whether nothing more comes, while no read waits for it.
+fn has_ended(stream: &TcpStream) -> bool {
+    let mut next = [0; 1];
+    match stream.peek(&mut next) {
+        Ok(count) => count == 0,
+        Err(error) => !matches!(error.kind(), ErrorKind::WouldBlock | ErrorKind::Interrupted),
+    }
+}
+
+/// Says whether the client at the other end has gone, and does not wait for it. Meanwhile nobody else may read or write.
+pub fn has_gone(stream: &TcpStream) -> bool {
+    if stream.set_nonblocking(true).is_err() {
+        return true;
+    }
+    let has_ended = has_ended(stream);
+    stream.set_nonblocking(false).is_err() || has_ended
+}
+
+impl Presence for Connection {
+    fn share(&self) -> Result<Self, AllocError> {
+        Ok(Connection {
+            stream: Arc::try_clone(&self.stream)?,
+        })
+    }
+
+    fn is_gone(&self) -> bool {
+        has_gone(self.stream.as_ref())
+    }
+}

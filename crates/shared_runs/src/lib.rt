@@ -1,0 +1,6 @@
+//! What sessions at a repository that others change too have made of it.
+#![tactic(auto)]
+
+mod laws;
+
+pub use laws::own_changes_are_asked_for;
