@@ -1,2 +1,2 @@
 pub mod Archives
-pub mod Showing
+pub mod Publishing

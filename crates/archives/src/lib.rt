@@ -2,7 +2,7 @@
 #![tactic(auto)]
 
 mod archive;
-mod showing;
+mod publisher;
 
 pub use archive::{Archive, SaveFault};
-pub use showing::{Ready, make_ready, show_change, show_failure};
+pub use publisher::{Publisher, Ready};

@@ -1,11 +1,12 @@
 -- How a keeper stands between calls, as contracts see it.
 use Rattle.std.specs.Prelude.{◌≡◌, ◌<◌, ◌^◌, ℕ, List, [], ◌∷◌, true, false, length, slice_get, Option, Some, None, Result, Ok, Err, Vec}
+use mathlib.Core.List.{IsPrefix}
 use Rattle.stops.specs.Calls.{AreCalls, CallLeaves}
 use Rattle.std.specs.declared.alloc.Global.{Global}
 use Rattle.repo_api.specs.{Accepted.Accepted, States.RepoState, declared.fault.ChangeFault.ChangeFault}
 use Rattle.repo_api.specs.declared.fault.ChangeFault.TheVariants as faults
 use Rattle.access.specs.Points.{Point}
-use Rattle.published.specs.{Edition.Edition, Events.{Event, IsHistory, Known, knowing, point_of, state_of}, Events.Event.Opened, Files.{Agrees, Kept}}
+use Rattle.published.specs.{Edition.Edition, Events.{Event, IsHistory, Known, count_in, knowing, point_of, state_of}, Events.Event.Opened, Files.{Agrees, Kept}, Moments.GoesOn}
 use Rattle.archives.specs.Archives.{FilesStand}
 
 -- the events, the repository, what is published, and the archive
@@ -27,6 +28,14 @@ now_of n k = point_of (knowing n k.list)
 abbrev pub HappensAt : {S R : Type 0} → (Point → R → Point → Type 0) → ℕ → Standing S → R → Standing S
     → Type 0
 HappensAt change n k result k' = change (now_of n k) result (now_of n k')
+
+-- a seat is shown where the keeper stands: its events begin the keeper's, those between are of others,
+-- and it knows all
+pub record Meets {S : Type 0} (seat : Known) (k : Standing S) (seat' : Known) : Type 0 where
+  pub later : GoesOn (point_of seat) (now_of seat.number k)
+  pub begins : IsPrefix seat.list k.list
+  pub alone : count_in seat.number k.list ≡ seat.count
+  pub told : seat' ≡ knowing seat.number k.list
 
 -- seats that have seen a repository's opening: each has a number of its own, and has made nothing
 abbrev pub HaveSeenOpening : RepoState → ℕ → List Known → Type 0
@@ -78,7 +87,3 @@ module _ {S : Type 0} (kept : S → Kept) (stands : S → List RepoState → Typ
   IsOpened archive c opened =
       (opened.0.list ≡ Opened c (kept archive).failures ∷ []) × (opened.0.archive ≡ archive)
       × IsSteady opened.0 × HaveSeenOpening c (kept archive).failures opened.1.items
-
-  -- a seat has been shown where the keeper stands, which is steady
-  abbrev pub IsShown : ℕ → Known → Standing S → Type 0
-  IsShown n seat k = (seat ≡ knowing n k.list) × IsSteady k

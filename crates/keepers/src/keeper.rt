@@ -1,16 +1,14 @@
 //! The keeper of a repository: it alone changes it.
-ghost use Rattle.std.specs.Prelude.{◌≡◌, ◌<◌, ◌^◌, ◌+◌, ◌∷◌, [], ℕ, slice_get, Some, IfOk};
-ghost use mathlib.Core.List.{IsPrefix};
-ghost use Rattle.published.specs.{Authors.roll, Edition.edition_after, Events.{Known, accepted_by, knowing, point_of, state_of}, Files.MayOpen, Moments.GoesOn};
+ghost use Rattle.std.specs.Prelude.{◌≡◌, ◌<◌, ◌^◌, ◌+◌, ◌∷◌, [], ℕ, slice_get, Some, IfOk, MatchBool};
+ghost use Rattle.published.specs.{Authors.roll, Edition.edition_after, Events.{Known, accepted_by, knowing, state_of}, Files.MayOpen};
 ghost use Rattle.archives.specs.Archives.{IsNext};
-ghost use Rattle.keepers.specs.{Settling.SettlesTo, Standing.{Begins, CanBegin, HappensAt, IsOpened, IsShown, IsSteady, StopLeaves, now_of}};
+ghost use Rattle.keepers.specs.{Settling.SettlesTo, Standing.{Begins, CanBegin, HappensAt, IsOpened, IsSteady, Meets, StopLeaves}};
 
 use crate::seat::Seat;
-use archives::{Archive, SaveFault, make_ready, show_change, show_failure};
+use archives::{Archive, Publisher, SaveFault};
 use left_right::Absorb;
 use published::{
     AskedChange, Authors, Carries, Desk, Front, Naming, NewHistory, Published, Sets, WholeHistory,
-    wait_forever,
 };
 use repo_api::{ChangeFault, Repository};
 use std::alloc::{AllocError, Global};
@@ -24,7 +22,7 @@ pub const MAX_SEATS: usize = 65_536;
 /// How many events there are at most.
 const MAX_EVENTS: u64 = 1 << 60;
 
-/// A repository, its history, what publishes it, and its archive.
+/// A repository, its history and what publishes it, and its archive.
 pub struct Keeper<
     R: Repository,
     S: Archive<R>,
@@ -33,9 +31,8 @@ pub struct Keeper<
     O: Sets<Published<R, J>> + Drop,
 > {
     alloc: Global,
-    history: WholeHistory<J, S>,
+    publisher: Publisher<R, S, J, T, O>,
     repository: R,
-    desk: Desk<T, O>,
     archive: S,
     has_ended: bool,
 }
@@ -50,9 +47,8 @@ impl<
     fn drop(self) {
         let Keeper {
             alloc: _,
-            history: _,
+            publisher: _,
             repository: _,
-            desk: _,
             archive: _,
             has_ended: _,
         } = self;
@@ -73,11 +69,11 @@ impl<
 
     ghost coded = { Prim.hlevel (map_code, codes) };
 
-    ghost view = { λ k. standing k.history (R.content k.repository)
-        (T.carried_value k.desk.writer.desk.shown.value) k.archive };
+    ghost view = { λ k. standing k.publisher.history (R.content k.repository)
+        (T.carried_value k.publisher.desk.writer.desk.shown.value) k.archive };
 
-    ghost invariant = { λ k. IsSteady S.kept S.stands (standing k.history (R.content k.repository)
-        (T.carried_value k.desk.writer.desk.shown.value) k.archive) };
+    ghost invariant = { λ k. IsSteady S.kept S.stands (standing k.publisher.history (R.content k.repository)
+        (T.carried_value k.publisher.desk.writer.desk.shown.value) k.archive) };
 }
 
 /// Makes so many seats of these authors.
@@ -207,9 +203,8 @@ impl<
                         drop(authors);
                         let keeper = Keeper {
                             alloc,
-                            history,
+                            publisher: Publisher::new(history, desk),
                             repository,
-                            desk,
                             archive,
                             has_ended: false,
                         };
@@ -235,8 +230,13 @@ impl<
         requires { (x y : T) → T.state x ≡ T.state y }
         ensures { self.new ≡ self.old }
     {
-        let desk = desk_at(self.alloc, &self.repository, self.history.front(), 1)?;
-        let ended = mem::replace(&mut self.desk, desk);
+        let desk = desk_at(
+            self.alloc,
+            &self.repository,
+            self.publisher.history.front(),
+            1,
+        )?;
+        let ended = mem::replace(&mut self.publisher.desk, desk);
         ended.close(rt);
         self.has_ended = true;
         Ok(())
@@ -265,91 +265,72 @@ impl<
         if self.archive.is_halted() {
             return Err(ChangeFault::Halted);
         }
-        if self.has_ended || self.history.front().len() >= MAX_EVENTS {
+        if self.has_ended || self.publisher.history.front().len() >= MAX_EVENTS {
             return Err(ChangeFault::NoMemory);
         }
         Ok(())
     }
 
-    /// Shows a seat where the keeper stands. Its events begin with those of the seat, and the seat knows all of its own.
-    pub fn meet<W: Wait>(&self, rt: &W, seat: &mut Seat<R, J, T>)
-        ensures later { GoesOn (point_of seat.old) (now_of seat.old.number self.now) }
-        ensures begins { IsPrefix seat.old.list self.now.list }
-        ensures shown { IsShown S.kept S.stands seat.old.number seat.new self.now }
+    /// Shows a seat where the keeper stands, and says whether it did. Its events begin with those of the seat, and since the
+    /// seat last met it, none was the seat's own.
+    pub fn meet(&self, seat: &mut Seat<R, J, T>) -> bool
+        ensures meets { MatchBool result (Meets seat.old self.now seat.new) (seat.new ≡ seat.old) }
+        ensures steady { IsSteady S.kept S.stands self.now }
     {
-        if !self.history.meet(&mut seat.author) {
-            wait_forever(rt);
-            unreachable!()
-        }
+        self.publisher.history.meet(&mut seat.author)
     }
 
-    /// Saves what a change of a seat's has made, and publishes it. Where the store fails, that is published.
+    /// Saves what a change of a seat's has made, the next repository and what is to be written, and publishes it. Where the
+    /// store fails, that is published.
     pub fn settle<W: Wait>(
         &mut self,
         rt: &W,
         seat: &mut Seat<R, J, T>,
-        next: R,
-        unsaved: S::Unsaved,
+        made: (R, S::Unsaved),
         asked: AskedChange<R::Txn>,
     ) -> Result<(), ChangeFault>
         requires ready { CanBegin S.kept self.old }
         requires met { seat.old ≡ knowing seat.old.number self.old.list }
-        requires next { IsNext self.old.content (accepted_by R.txn_state asked) (R.content next) }
-        requires writes { S.writes self.old.archive unsaved (accepted_by R.txn_state asked) }
+        requires next { IsNext self.old.content (accepted_by R.txn_state asked) (R.content made.0) }
+        requires writes { S.writes self.old.archive made.1 (accepted_by R.txn_state asked) }
         ensures point { HappensAt (SettlesTo (accepted_by R.txn_state asked)) seat.old.number self.old result
             self.new }
         ensures told { seat.new ≡ knowing seat.old.number self.new.list }
         ensures stop { StopLeaves S.kept S.leaves (accepted_by R.txn_state asked ∷ []) self.old self.new }
     {
-        let ready = match make_ready(self.alloc, &mut self.desk, &next, &self.repository) {
+        let (next, unsaved) = made;
+        let ready = match self
+            .publisher
+            .make_ready(self.alloc, &next, &self.repository, asked)
+        {
             Ok(ready) => ready,
             Err(AllocError) => {
-                drop((next, unsaved, asked));
+                drop((next, unsaved));
                 return Err(ChangeFault::NoMemory);
             }
         };
         match self.archive.save(unsaved) {
             Ok(()) => {
-                show_change::<R, S, J, T, O, W>(
-                    rt,
-                    &mut self.history,
-                    &mut self.desk,
-                    &mut seat.author,
-                    &self.archive,
-                    ready,
-                    asked,
-                );
+                self.publisher
+                    .show_change(rt, &mut seat.author, &self.archive, ready);
                 self.repository = next;
                 Ok(())
             }
             Err(SaveFault::NoMemory) => {
-                drop((next, ready, asked));
+                drop(next);
+                self.publisher.put_back(ready);
                 Err(ChangeFault::NoMemory)
             }
             Err(SaveFault::Device) => {
                 drop(next);
-                show_failure::<R, S, J, T, O, W>(
-                    rt,
-                    &mut self.history,
-                    &mut self.desk,
-                    &mut seat.author,
-                    &self.archive,
-                    ready,
-                    asked,
-                );
+                self.publisher
+                    .show_failure(rt, &mut seat.author, &self.archive, ready);
                 Err(ChangeFault::StoreFailed)
             }
             Err(SaveFault::Halted) => {
                 drop(next);
-                show_failure::<R, S, J, T, O, W>(
-                    rt,
-                    &mut self.history,
-                    &mut self.desk,
-                    &mut seat.author,
-                    &self.archive,
-                    ready,
-                    asked,
-                );
+                self.publisher
+                    .show_failure(rt, &mut seat.author, &self.archive, ready);
                 Err(ChangeFault::Halted)
             }
         }

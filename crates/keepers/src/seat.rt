@@ -4,6 +4,7 @@ ghost use mathlib.Core.List.{IsPrefix};
 ghost use Rattle.access.specs.Points.{content_of};
 ghost use Rattle.published.specs.{Events.{IsLonger, point_of}, Moments.GoesOn};
 
+use access::Looks;
 use crossbeam_utils::rule::Unruled;
 use left_right::reader::Reader;
 use published::{Author, Carries, Naming, Published};
@@ -84,5 +85,39 @@ impl<R: Repository, J: Naming, T: Carries<Published<R, J>> + Drop> Seat<R, J, T>
             (IsPrefix other.now.list self.now.list) }
     {
         self.author.is_behind(&other.author)
+    }
+}
+
+impl<R: Repository, J: Naming, T: Carries<Published<R, J>> + Drop> Looks for Seat<R, J, T> {
+    ghost use Rattle.published.specs.{Events.point_of, Moments.{shared_rules, stays, goes_on, keeps, sound, lasts, counts, others, counted}};
+
+    type View = R;
+
+    ghost point = { λ s. point_of s };
+
+    ghost rules = { shared_rules };
+
+    ghost stays = { stays };
+
+    ghost goes_on = { goes_on };
+
+    ghost keeps = { keeps };
+
+    ghost sound = { sound };
+
+    ghost lasts = { lasts };
+
+    ghost counts = { counts };
+
+    ghost others = { others };
+
+    ghost counted = { counted };
+
+    fn look(&mut self) -> Result<R, AllocError> {
+        Seat::look(self)
+    }
+
+    fn is_halted(&self) -> bool {
+        Seat::is_halted(self)
     }
 }

@@ -5,8 +5,8 @@ use Rattle.std.specs.Prelude.{if◌then◌else◌}
 use mathlib.Core.List.{IsPrefix}
 use Rattle.repo_api.specs.{Accepted.{Accepted, changed, changed_all}, Soundness.AreSound, States.RepoState}
 use Rattle.access.specs.{Changing.IsUnchanged, Points.{HasRisen, last_count}}
-use Rattle.published.specs.{Changes.{IsRight, AreRight}, Events.{Event, first_in, changes_in, own_in, count_in, state_of, moment_of, MayFollow, MayAllFollow, IsHistory}}
-use Rattle.published.specs.{Events.{Told, told, told_by, told_from, told_in}, Events.Event.{Opened, Makes, Fails}, Moments.{GoesOn, ListGoesOn, added, changed_more, all_sound}}
+use Rattle.published.specs.{Changes.{IsRight, AreRight}, Events.{Event, first_in, changes_in, own_in, count_in, state_of, moment_of, MayAllFollow, IsHistory}}
+use Rattle.published.specs.{Events.{Told, told, told_by, told_from, told_in}, Events.Event.{Opened, Makes, Fails}, Moments.{ListGoesOn, added, changed_more, all_sound}}
 
 -- ---- one list of events behind another
 

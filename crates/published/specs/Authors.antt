@@ -1,5 +1,5 @@
 -- Who gives out authors, and who counts their events.
-use Rattle.std.specs.Prelude.{◌≡◌, ◌<◌, ◌+◌, ℕ, Bool, List, length, slice_index_or, ◌==◌, if◌then◌else◌}
+use Rattle.std.specs.Prelude.{◌≡◌, ◌<◌, ◌+◌, ℕ, List, length, slice_index_or, ◌==◌, if◌then◌else◌}
 use mathlib.Core.List.{IsPrefix}
 use Rattle.published.specs.Events.{Event, count_in}
 

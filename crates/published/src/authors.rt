@@ -10,13 +10,12 @@ use crate::event::{
     AskedChange, ChangeEvent, FailedChange, FailureEvent, Opening, OpeningEvent, SavedChange,
 };
 use crate::files::Files;
-use crate::history::{Book, Front, Naming, NewHistory, first_front, next_front};
+use crate::history::{Book, Front, Naming, NewHistory, Turn, first_front, next_front};
 use noted::Noted;
 use repo_api::Repository;
 use std::alloc::{AllocError, Global};
 use std::marker::Model;
 use std::mem::drop;
-use std::sync::Wait;
 
 /// Who makes changes: a number that no other has, and a beginning of the history that was seen. Contracts see these, and
 /// the changes that it made itself.
@@ -123,10 +122,12 @@ pub struct WholeHistory<J: Naming, S: Files> {
     front: Front<J>,
     /// How many events each author has.
     made: Vec<u64>,
+    /// The turn to add the next event, if it was taken and not used.
+    turn: Option<Turn<J>>,
 }
 
 impl<J: Naming, S: Files> Model for WholeHistory<J, S> {
-    ghost use Rattle.std.specs.{Prelude.{◌<◌, List, length}, Coded.{codes, coded_list}, FinMap.code as map_code};
+    ghost use Rattle.std.specs.{Prelude.{◌≡◌, ◌<◌, List, length, IfSome}, Coded.{codes, coded_list}, FinMap.code as map_code};
     ghost use Rattle.published.specs.{Authors.AreCounted, Events.Event};
 
     ghost Value = { List Event };
@@ -135,7 +136,8 @@ impl<J: Naming, S: Files> Model for WholeHistory<J, S> {
 
     ghost view = { λ h. h.front };
 
-    ghost invariant = { λ h. (0 < length h.front) × AreCounted h.made.items h.front };
+    ghost invariant = { λ h. (0 < length h.front) × AreCounted h.made.items h.front
+        × IfSome h.turn (λ turn. turn ≡ length h.front) };
 }
 
 /// Makes so many zeros.
@@ -173,7 +175,13 @@ impl<J: Naming, S: Files> WholeHistory<J, S> {
                     next: 0,
                     most: authors as u64,
                 };
-                Ok((WholeHistory { book, front, made }, all))
+                let history = WholeHistory {
+                    book,
+                    front,
+                    made,
+                    turn: None,
+                };
+                Ok((history, all))
             }
             None => {
                 drop((opening, book, front, made));
@@ -192,9 +200,10 @@ impl<J: Naming, S: Files> WholeHistory<J, S> {
 
     /// Shows an author all of it, and says whether it did. Since it last met this, it has made no change.
     pub fn meet(&self, author: &mut Author<J>) -> bool
-        ensures met { result ≡ true → (author.new ≡ knowing author.old.number self.now)
+        ensures { MatchBool result ((author.new ≡ knowing author.old.number self.now)
             × GoesOn (point_of author.old) (point_of author.new)
-            × IsPrefix author.old.list self.now }
+            × IsPrefix author.old.list self.now × (count_in author.old.number self.now ≡ author.old.count))
+            (author.new ≡ author.old) }
     {
         let number = author.number as usize;
         if number >= self.made.len() || self.made[number] != author.made {
@@ -207,15 +216,35 @@ impl<J: Naming, S: Files> WholeHistory<J, S> {
         true
     }
 
+    /// Gives the turn to add the next event, unless another has it.
+    pub fn take_turn(&mut self) -> Option<Turn<J>>
+        ensures same { self.new ≡ self.old }
+        ensures turn { IfSome result (λ turn. turn ≡ length self.old) }
+    {
+        match self.turn.take() {
+            Some(turn) => Some(turn),
+            None => self.front.take_turn::<S>(&self.book),
+        }
+    }
+
+    /// Takes a turn back that was not used.
+    pub fn keep_turn(&mut self, turn: Turn<J>)
+        requires { turn ≡ length self.old }
+        ensures { self.new ≡ self.old }
+    {
+        self.turn = Some(turn);
+    }
+
     /// Adds a change that an author has made, for which the files stand now, and tells the author.
-    pub fn add_change<R: Repository, W: Wait>(
+    pub fn add_change<R: Repository>(
         &mut self,
-        rt: &W,
+        turn: Turn<J>,
         author: &mut Author<J>,
         asked: AskedChange<R::Txn>,
         files: &S,
     )
         requires room { length self.old < 2 ^ 60 }
+        requires turn { turn ≡ length self.old }
         requires met { author.old ≡ knowing author.old.number self.old }
         requires running { (told_in self.old).halted ≡ false }
         requires right { IsRight (state_of self.old) (accepted_by R.txn_state asked) }
@@ -228,9 +257,9 @@ impl<J: Naming, S: Files> WholeHistory<J, S> {
             by: author.number,
             asked,
         };
-        let next = next_front::<SavedChange<R::Txn>, ChangeEvent<R>, J, S, W>(
-            rt,
+        let next = next_front::<SavedChange<R::Txn>, ChangeEvent<R>, J, S>(
             &self.book,
+            turn,
             &self.front,
             &change,
             false,
@@ -240,14 +269,15 @@ impl<J: Naming, S: Files> WholeHistory<J, S> {
     }
 
     /// Adds that the store has failed at a change of an author's, as what keeps the files says now, and tells the author.
-    pub fn add_failure<R: Repository, W: Wait>(
+    pub fn add_failure<R: Repository>(
         &mut self,
-        rt: &W,
+        turn: Turn<J>,
         author: &mut Author<J>,
         asked: AskedChange<R::Txn>,
         files: &S,
     )
         requires room { length self.old < 2 ^ 60 }
+        requires turn { turn ≡ length self.old }
         requires met { author.old ≡ knowing author.old.number self.old }
         requires running { (told_in self.old).halted ≡ false }
         requires right { IsRight (state_of self.old) (accepted_by R.txn_state asked) }
@@ -263,9 +293,9 @@ impl<J: Naming, S: Files> WholeHistory<J, S> {
             halts,
             failures: files.failures(),
         };
-        let next = next_front::<FailedChange<R::Txn>, FailureEvent<R>, J, S, W>(
-            rt,
+        let next = next_front::<FailedChange<R::Txn>, FailureEvent<R>, J, S>(
             &self.book,
+            turn,
             &self.front,
             &change,
             change.halts,
@@ -290,5 +320,6 @@ impl<J: Naming, S: Files> WholeHistory<J, S> {
         author.seen = next.again();
         author.told = next.again();
         self.front = next;
+        self.turn = None;
     }
 }

@@ -5,9 +5,9 @@ ghost use Rattle.published.specs.{Events.{IsHistory, IsLonger, told_in}, Rules.{
 
 use crate::event::Happened;
 use crate::files::Files;
-use logbook::{Gain, Offer, Plain, Play, Rule, Seen, Start, Word};
+use logbook::{Gain, Offer, Pen, Plain, Play, Rule, Seen, Start, Word};
 use std::marker::{Brand, Model, PhantomData};
-use std::sync::Wait;
+use std::mem::drop;
 
 /// The rule of the history.
 pub struct Law;
@@ -37,6 +37,28 @@ impl Gain<Happened, u64> for Nothing {
     ghost use base.Fml.{ftrue};
 
     ghost after = { λ names about answer. ftrue };
+}
+
+/// A step that takes the turn to add the next event.
+pub struct Take;
+
+impl Play<Happened, u64> for Take {
+    ghost use Rattle.published.specs.Rules.{Takes};
+
+    ghost then = { Takes };
+}
+
+/// What is asked by a step that adds no event.
+pub struct NoEvent;
+
+impl Plain<(), Happened, u64> for NoEvent {
+    ghost use Rattle.std.specs.Prelude.{None, []};
+    ghost use Rattle.repo_api.specs.Accepted.Accepted.{Releases};
+    ghost use Rattle.published.specs.Events.Event.{Makes};
+
+    ghost ask = { λ x. Makes 0 (Releases None []) };
+
+    ghost state = { λ x. None };
 }
 
 /// A step that adds an event.
@@ -107,6 +129,27 @@ pub(crate) struct Book<J: Naming, S: Files> {
     of: PhantomData<J>,
     files: PhantomData<S>,
     ghost head_is: { head ≡ head_of J.book },
+}
+
+/// The turn to add an event to the history: until it is used, nobody else can add one. Contracts see how many events stand
+/// before that one.
+#[derive(Drop)]
+pub struct Turn<J: Naming> {
+    pen: Pen,
+    of: PhantomData<J>,
+}
+
+impl<J: Naming> Model for Turn<J> {
+    ghost use Rattle.std.specs.{Prelude.{◌≡◌, ◌-◌, ℕ}, Coded.codes, FinMap.code as map_code};
+    ghost use Rattle.published.specs.Rules.{turn_after};
+
+    ghost Value = { ℕ };
+
+    ghost coded = { Prim.hlevel (map_code, codes) };
+
+    ghost view = { λ t. t.pen.nib.key - 2 };
+
+    ghost invariant = { λ t. (t.pen.book ≡ J.book) × (t.pen.nib ≡ turn_after (t.pen.nib.key - 2)) };
 }
 
 /// A beginning of the history. Contracts see it as its events.
@@ -192,43 +235,55 @@ impl<J: Naming> Front<J> {
         true
     }
 
-    /// Adds an event to all that was seen, and says whether it did: it did not where the history is longer. After
-    /// it changes have come to a halt, or not.
+    /// Takes the turn to add an event to what was seen, unless the history is longer or another has the turn.
+    pub(crate) fn take_turn<S: Files>(&self, book: &Book<J, S>) -> Option<Turn<J>>
+        ensures { IfSome result (λ turn. turn ≡ length self.now) }
+    {
+        let events = self.events;
+        if events == u64::MAX {
+            return None;
+        }
+        let mut seen = self.seen.again();
+        let mut offer: Offer<Happened, u64, Law, Nothing> = seen.plain::<Nothing, (), NoEvent>(&());
+        let mut pen = seen.no_pen();
+        let found = book
+            .head
+            .compare_exchange::<Take, Nothing>(events, events + 1, &mut seen, &mut offer, &mut pen);
+        if found != events {
+            return None;
+        }
+        drop(Word::<Happened, u64, Law>::tracked(0, &mut pen));
+        Some(Turn {
+            pen,
+            of: PhantomData,
+        })
+    }
+
+    /// Adds an event to all that was seen, in its turn. After it changes have come to a halt, or not.
     fn add<X, M: Plain<X, Happened, u64>, S: Files>(
         &mut self,
         book: &Book<J, S>,
+        turn: Turn<J>,
         about: &X,
         is_halted: bool,
-    ) -> bool
+    )
         requires room { length self.old < 2 ^ 62 }
+        requires turn { turn ≡ length self.old }
         requires may { MayAdd M.Plain self.old about.now }
         requires halted { is_halted ≡ (told_in (self.old ++ M.ask about.now ∷ [])).halted }
-        ensures { MatchBool result (self.new ≡ self.old ++ M.ask about.now ∷ [])
-            (self.new ≡ self.old) }
+        ensures { self.new ≡ self.old ++ M.ask about.now ∷ [] }
     {
+        let Turn { mut pen, of: _ } = turn;
         let mut seen = self.seen.again();
         let mut offer: Offer<Happened, u64, Law, Nothing> = seen.plain::<Nothing, X, M>(about);
-        let mut pen = seen.no_pen();
-        let events = self.events;
-        let found = book
+        let events = self.events + 1;
+        let _ = book
             .head
-            .compare_exchange::<Add, Nothing>(events, events + 1, &mut seen, &mut offer, &mut pen);
-        if found != events {
-            return false;
-        }
-        self.events = events + 1;
+            .compare_exchange::<Add, Nothing>(events, events, &mut seen, &mut offer, &mut pen);
+        self.events = events;
         self.is_halted = is_halted;
         self.seen = seen;
-        true
     }
-}
-
-/// Waits forever. No run comes here.
-pub fn wait_forever<W: Wait>(rt: &W)
-    ensures { ⊥ }
-{
-    for _ in rt.forever() {}
-    unreachable!()
 }
 
 /// Makes the front with the first event, unless somebody has added one.
@@ -242,32 +297,26 @@ pub(crate) fn first_front<X, M: Plain<X, Happened, u64>, J: Naming, S: Files>(
     requires halted { false ≡ (told_in (front.now ++ M.ask about.now ∷ [])).halted }
     ensures { IfSome result (λ next. next ≡ front.now ++ M.ask about.now ∷ []) }
 {
-    let mut next = front.again();
-    if next.add::<X, M, S>(book, about, false) {
-        Some(next)
-    } else {
-        None
-    }
+    let turn = front.take_turn::<S>(book)?;
+    Some(next_front::<X, M, J, S>(book, turn, front, about, false))
 }
 
-/// Makes the front with an event more, which nobody else can have added.
-pub(crate) fn next_front<X, M: Plain<X, Happened, u64>, J: Naming, S: Files, W: Wait>(
-    rt: &W,
+/// Makes the front with an event more, in its turn.
+pub(crate) fn next_front<X, M: Plain<X, Happened, u64>, J: Naming, S: Files>(
     book: &Book<J, S>,
+    turn: Turn<J>,
     front: &Front<J>,
     about: &X,
     is_halted: bool,
 ) -> Front<J>
     requires room { length front.now < 2 ^ 60 }
+    requires turn { turn ≡ length front.now }
     requires may { MayAdd M.Plain front.now about.now }
     requires halted { is_halted ≡ (told_in (front.now ++ M.ask about.now ∷ [])).halted }
     ensures { (result ≡ front.now ++ M.ask about.now ∷ []) × IsHistory result }
 {
     let mut next = front.again();
-    if !next.add::<X, M, S>(book, about, is_halted) {
-        wait_forever(rt);
-        unreachable!()
-    }
+    next.add::<X, M, S>(book, turn, about, is_halted);
     let _ = next.len();
     next
 }

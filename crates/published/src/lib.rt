@@ -11,6 +11,6 @@ mod shown;
 pub use authors::{Author, Authors, WholeHistory};
 pub use event::{AskedChange, Happened};
 pub use files::Files;
-pub use history::{Front, Naming, NewHistory, wait_forever};
+pub use history::{Front, Naming, NewHistory, Turn};
 pub use laws::commits_are_right;
 pub use shown::{Carries, Desk, Places, Published, Sets, Setting, Shown};

@@ -3,11 +3,12 @@ ghost use Rattle.std.specs.Prelude.{◌≡◌};
 ghost use Rattle.store_files.specs.Folders.{Folder, IsSame};
 ghost use Rattle.repo_api.specs.Soundness.{AreSound};
 
+use access::SplitAccess;
 use filed_archive::{FiledArchive, ServedRepo, ServedSeat, share};
 use filed_opening::{FolderRepository, open, opened_trees_are_sound};
 use filed_world::FiledWorld;
 use published::{Naming, NewHistory, Published, Setting, Shown};
-use sharedrepo::SeatAccess;
+use sharedrepo::{LockedChanges, SeatAccess};
 use std::alloc::Global;
 use std::process::Abort;
 use std::sync::{Arc, Wait};
@@ -90,10 +91,9 @@ impl<'r, F: Filed, S: Store, J: Naming, R: Wait> Place<'r, F, S, J, R> {
             seat,
             rt,
         } = self;
-        SeatAccess {
-            repository,
-            seat,
-            rt,
+        SplitAccess {
+            looks: seat,
+            changes: LockedChanges { repository, rt },
         }
     }
 }

@@ -8,12 +8,13 @@ ghost use Rattle.session_pool.specs.Serving.{settings_of};
 use crate::envs::SystemEnvs;
 use crate::fault::ServingFault;
 use crate::settings::Server;
+use access::SplitAccess;
 use crossbeam_channel::Receiver;
 use entrance::{Client, Halts, Registry};
 use filed_archive::{FiledArchive, ServedRepo, ServedSeat, share};
 use published::{Naming, NewHistory, Published, Setting, Shown};
 use session_pool::{MAX_SESSIONS, SessionPool};
-use sharedrepo::SeatAccess;
+use sharedrepo::{LockedChanges, SeatAccess};
 use std::alloc::Global;
 use std::random::RandomSource;
 use std::sync::{Arc, Wait};
@@ -43,7 +44,7 @@ pub struct Desk<'r, R: Clock, F: Filed, S: Store, J: Naming> {
 impl<'r, R: Clock + Wait, F: Filed, S: Store, J: Naming> Desk<'r, R, F, S, J> {
     /// Gives the seat as a session reaches it, and what hands moments and words in.
     pub fn into_parts(self) -> (Access<'r, R, F, S, J>, SystemEnvs<'r, R>)
-        ensures { result.0.seat ≡ self.entry.seat }
+        ensures { result.0.looks ≡ self.entry.seat }
     {
         let Desk {
             repository,
@@ -51,10 +52,9 @@ impl<'r, R: Clock + Wait, F: Filed, S: Store, J: Naming> Desk<'r, R, F, S, J> {
             rt,
             envs,
         } = self;
-        let access = SeatAccess {
-            repository,
-            seat,
-            rt,
+        let access = SplitAccess {
+            looks: seat,
+            changes: LockedChanges { repository, rt },
         };
         (access, envs)
     }

@@ -1,17 +1,16 @@
 //! A seat with the lock, as a session reaches the repository.
 use crate::shared_repo::Locked;
-use access::{Committed, RepoAccess, SharedAccess};
+use access::{Changes, Committed, SplitAccess};
 use archives::Archive;
 use keepers::Seat;
 use left_right::Absorb;
 use published::{Carries, Naming, Published, Sets};
 use repo_api::{ChangeFault, CommitAsk, LockAsk, PropertyAsk, Repository, UnlockAsk};
-use std::alloc::AllocError;
 use std::sync::{Arc, Wait};
 
-/// A repository that others change too, as one session reaches it.
+/// The lock of a repository that others change too, and what waits for it.
 #[derive(Drop)]
-pub struct SeatAccess<
+pub struct LockedChanges<
     R: Repository,
     S: Archive<R>,
     J: Naming,
@@ -20,63 +19,12 @@ pub struct SeatAccess<
     W: Wait + Drop,
 > {
     pub repository: Arc<Locked<R, S, J, T, O>>,
-    pub seat: Seat<R, J, T>,
     pub rt: W,
 }
 
-impl<
-    R: Repository,
-    S: Archive<R>,
-    J: Naming,
-    T: Absorb<O> + Carries<Published<R, J>> + Drop,
-    O: Sets<Published<R, J>> + Drop,
-    W: Wait + Drop,
-> RepoAccess for SeatAccess<R, S, J, T, O, W> {
-    ghost use Rattle.published.specs.{Events.point_of, Moments.{shared_rules, stays, goes_on, keeps, sound, lasts, counts}};
-
-    type View = R;
-
-    ghost point = { λ a. point_of a.seat };
-
-    ghost rules = { shared_rules };
-
-    ghost stays = { stays };
-
-    ghost goes_on = { goes_on };
-
-    ghost keeps = { keeps };
-
-    ghost sound = { sound };
-
-    ghost lasts = { lasts };
-
-    ghost counts = { counts };
-
-    fn look(&mut self) -> Result<R, AllocError> {
-        self.seat.look()
-    }
-
-    fn is_halted(&self) -> bool {
-        self.seat.is_halted()
-    }
-
-    fn commit(&mut self, ask: CommitAsk, txn: R::Txn) -> Result<Committed, ChangeFault> {
-        self.repository.commit(&self.rt, &mut self.seat, ask, txn)
-    }
-
-    fn lock(&mut self, ask: LockAsk) -> Result<(), ChangeFault> {
-        self.repository.lock(&self.rt, &mut self.seat, ask)
-    }
-
-    fn unlock(&mut self, ask: &UnlockAsk) -> Result<(), ChangeFault> {
-        self.repository.unlock(&self.rt, &mut self.seat, ask)
-    }
-
-    fn change_property(&mut self, ask: PropertyAsk) -> Result<(), ChangeFault> {
-        self.repository
-            .change_property(&self.rt, &mut self.seat, ask)
-    }
-}
+/// A repository that others change too, as one session reaches it: its seat looks and has no runtime, and what waits
+/// is needed for changes alone.
+pub type SeatAccess<R, S, J, T, O, W> = SplitAccess<Seat<R, J, T>, LockedChanges<R, S, J, T, O, W>>;
 
 impl<
     R: Repository,
@@ -85,10 +33,29 @@ impl<
     T: Absorb<O> + Carries<Published<R, J>> + Drop,
     O: Sets<Published<R, J>> + Drop,
     W: Wait + Drop,
-> SharedAccess for SeatAccess<R, S, J, T, O, W> {
-    ghost use Rattle.published.specs.Moments.{others, counted};
+> Changes<Seat<R, J, T>> for LockedChanges<R, S, J, T, O, W> {
+    fn commit(
+        &mut self,
+        seat: &mut Seat<R, J, T>,
+        ask: CommitAsk,
+        txn: R::Txn,
+    ) -> Result<Committed, ChangeFault> {
+        self.repository.commit(&self.rt, seat, ask, txn)
+    }
 
-    ghost others = { others };
+    fn lock(&mut self, seat: &mut Seat<R, J, T>, ask: LockAsk) -> Result<(), ChangeFault> {
+        self.repository.lock(&self.rt, seat, ask)
+    }
 
-    ghost counted = { counted };
+    fn unlock(&mut self, seat: &mut Seat<R, J, T>, ask: &UnlockAsk) -> Result<(), ChangeFault> {
+        self.repository.unlock(&self.rt, seat, ask)
+    }
+
+    fn change_property(
+        &mut self,
+        seat: &mut Seat<R, J, T>,
+        ask: PropertyAsk,
+    ) -> Result<(), ChangeFault> {
+        self.repository.change_property(&self.rt, seat, ask)
+    }
 }

@@ -1,12 +1,11 @@
 //! The keeper under a lock, by which threads change the repository, each by a seat of its own.
-ghost use Rattle.std.specs.Prelude.{◌≡◌, IfOk};
+ghost use Rattle.std.specs.Prelude.{◌≡◌, [], ◌∷◌, IfOk};
 ghost use Rattle.access.specs.{Changing.{ChangesPropertyAt, CommitsAt, LocksAt, UnlocksAt}, Points.content_of};
 ghost use Rattle.published.specs.{Events.point_of, Files.MayOpen, Moments.shared_rules};
-ghost use Rattle.repo_api.specs.Transactions.{MayCommit};
+ghost use Rattle.repo_api.specs.{Accepted.Accepted.{ChangesProperty, Commits, Locks, Releases, Unlocks}, Transactions.MayCommit};
 ghost use Rattle.keepers.specs.Standing.{HaveSeenOpening};
-ghost use Rattle.sharedrepo.specs.Calls.{Answers};
+ghost use Rattle.seat_calls.specs.Calls.{Answers, CallsUnderLock};
 
-use crate::calls;
 use access::Committed;
 use archives::Archive;
 use keepers::{Keeper, Seat};
@@ -107,9 +106,11 @@ impl<
         txn: R::Txn,
     ) -> Result<Committed, ChangeFault>
         requires { MayCommit (content_of (point_of seat.old)) (R.txn_state txn) }
-        ensures { Answers (CommitsAt shared_rules ask (R.txn_state txn)) seat.old result seat.new }
+        ensures answers { Answers (CommitsAt shared_rules ask (R.txn_state txn)) seat.old result seat.new }
+        ensures lock { CallsUnderLock S.kept S.stands S.leaves (CommitsAt shared_rules ask (R.txn_state txn))
+            (Commits ask (R.txn_state txn) ∷ Releases ask.author ask.tokens ∷ []) seat.old result seat.new }
     {
-        let answer = calls::commit(&mut self.keeper.lock(rt), rt, seat, ask, txn);
+        let answer = seat_calls::commit(&mut self.keeper.lock(rt), rt, seat, ask, txn);
         self.note(seat);
         answer
     }
@@ -121,9 +122,11 @@ impl<
         seat: &mut Seat<R, J, T>,
         ask: LockAsk,
     ) -> Result<(), ChangeFault>
-        ensures { Answers (LocksAt shared_rules ask) seat.old result seat.new }
+        ensures answers { Answers (LocksAt shared_rules ask) seat.old result seat.new }
+        ensures lock { CallsUnderLock S.kept S.stands S.leaves (LocksAt shared_rules ask)
+            (Locks ask ∷ []) seat.old result seat.new }
     {
-        let answer = calls::lock(&mut self.keeper.lock(rt), rt, seat, ask);
+        let answer = seat_calls::lock(&mut self.keeper.lock(rt), rt, seat, ask);
         self.note(seat);
         answer
     }
@@ -135,9 +138,11 @@ impl<
         seat: &mut Seat<R, J, T>,
         ask: &UnlockAsk,
     ) -> Result<(), ChangeFault>
-        ensures { Answers (UnlocksAt shared_rules ask.now) seat.old result seat.new }
+        ensures answers { Answers (UnlocksAt shared_rules ask.now) seat.old result seat.new }
+        ensures lock { CallsUnderLock S.kept S.stands S.leaves (UnlocksAt shared_rules ask.now)
+            (Unlocks ask.now ∷ []) seat.old result seat.new }
     {
-        let answer = calls::unlock(&mut self.keeper.lock(rt), rt, seat, ask);
+        let answer = seat_calls::unlock(&mut self.keeper.lock(rt), rt, seat, ask);
         self.note(seat);
         answer
     }
@@ -150,9 +155,11 @@ impl<
         seat: &mut Seat<R, J, T>,
         ask: PropertyAsk,
     ) -> Result<(), ChangeFault>
-        ensures { Answers (ChangesPropertyAt shared_rules ask) seat.old result seat.new }
+        ensures answers { Answers (ChangesPropertyAt shared_rules ask) seat.old result seat.new }
+        ensures lock { CallsUnderLock S.kept S.stands S.leaves (ChangesPropertyAt shared_rules ask)
+            (ChangesProperty ask ∷ []) seat.old result seat.new }
     {
-        let answer = calls::change_property(&mut self.keeper.lock(rt), rt, seat, ask);
+        let answer = seat_calls::change_property(&mut self.keeper.lock(rt), rt, seat, ask);
         self.note(seat);
         answer
     }

@@ -20,13 +20,11 @@ returns g c =
     let known = c.again.ensures ∙ c.self.view_is in
     let count = c.author.invariant.2 ∙ (sym counted ∙ (λ i. count_in (number i) (c.self.view_is i))) in
     let l : ListGoesOn seen front = subst (λ (w : List Event). ListGoesOn seen w) took c.if-not-take.ensures.later in
-    let there : moment_of front (own_in n front) ≡ moment_of c.take.new.self (own_in n c.again.result) = λ i. moment_of (sym took i) (own_in n (sym c.again.ensures i)) in
-    record {
-      met = λ _. (
-        λ i. record { number = number i; list = all i; own = own_in (number i) (known i); count = count i },
-        subst (λ (k : Known). GoesOn (point_of k) (moment_of c.take.new.self (own_in n c.again.result))) c.author.view_is
-            (subst (λ (q : Point). GoesOn (moment_of seen (own_in n told)) q) there (meets n told seen front c.author.invariant.1 l counted)),
-        subst (λ (xs : List Event). IsPrefix xs c.args.self.now) (ap (λ (k : Known). k.list) c.author.view_is)
-            (subst (λ (ys : List Event). IsPrefix seen ys) c.self.view_is l.begins),
-      );
-    }
+    let there : moment_of front (own_in n front) ≡ moment_of c.take.new.self (own_in n c.again.result) = λ i. moment_of (sym took i) (own_in n (sym c.again.ensures i)) in (
+      λ i. record { number = number i; list = all i; own = own_in (number i) (known i); count = count i },
+      subst (λ (k : Known). GoesOn (point_of k) (moment_of c.take.new.self (own_in n c.again.result))) c.author.view_is
+          (subst (λ (q : Point). GoesOn (moment_of seen (own_in n told)) q) there (meets n told seen front c.author.invariant.1 l counted)),
+      subst (λ (xs : List Event). IsPrefix xs c.args.self.now) (ap (λ (k : Known). k.list) c.author.view_is)
+          (subst (λ (ys : List Event). IsPrefix seen ys) c.self.view_is l.begins),
+      sym count ∙ ap (λ (k : Known). k.count) c.author.view_is,
+    )
