@@ -1,8 +1,9 @@
 -- How much a session may hold of an item that is not whole yet.
 use Rattle.std.specs.Prelude.{ℕ, ◌+◌, ◌*◌, nat_lt, Bool, ◌||◌, List, length, Option, Some, None}
 use Rattle.machine.specs.Stages.{SessionState, user_in}
-use Rattle.session.specs.{Awaiting.awaited, declared.awaiting.Awaited.Awaited}
-use Rattle.session.specs.declared.awaiting.Awaited.TheVariants.{Login, Command, Report, Edit, Nothing}
+use Rattle.session.specs.Awaiting.{awaited}
+use Rattle.guests.specs.declared.awaited.Awaited.{Awaited}
+use Rattle.guests.specs.declared.awaited.Awaited.TheVariants.{Login, Command, Report, Edit, Nothing}
 use Rattle.conversations.specs.declared.limits.TheConstants.{FRAME, STRING, FEW, MANY, MOST}
 
 -- so many bytes, by what is awaited

@@ -1,6 +1,6 @@
 //! Who hears what sessions wait for, and lets their pieces pass.
 
-use session::Awaited;
+use guests::Awaited;
 
 /// Is called before a piece of a session is read, and before it is fed. Sessions and the pieces of a session are
 /// counted from 1 on, and a session ends after its piece 2^64 - 1.

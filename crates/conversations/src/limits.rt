@@ -4,8 +4,9 @@ ghost use Rattle.items.specs.Counting.{CountsItems};
 ghost use Rattle.conversations.specs.Limits.{most_bytes, most_items, passes_limits};
 
 use byte_string::ByteString;
+use guests::Awaited;
 use repo_api::Repository;
-use session::{Awaited, Session};
+use session::Session;
 
 /// How many bytes an item may have in addition to its long strings: 128 KiB. Two URLs of 64 components fit.
 pub const FRAME: usize = 131_072;

@@ -1,8 +1,8 @@
 -- How long a client may send nothing. Moments and times are in milliseconds.
 use Rattle.std.specs.Prelude.{◌-◌, ℕ, Bool, true, false, ◌&&◌, ◌||◌, not, nat_le, nat_lt, length, List, if◌then◌else◌, Option, Some, None}
 use Rattle.std.specs.List.{filter, list_all}
-use Rattle.session.specs.declared.awaiting.Awaited.{Awaited}
-use Rattle.session.specs.declared.awaiting.Awaited.TheVariants.{Login, Command, Report, Edit, Nothing}
+use Rattle.guests.specs.declared.awaited.Awaited.{Awaited}
+use Rattle.guests.specs.declared.awaited.Awaited.TheVariants.{Login, Command, Report, Edit, Nothing}
 use Rattle.guests.specs.declared.guest.Guest.{Guest}
 use Rattle.guests.specs.declared.silence.Ending.{Ending}
 use Rattle.guests.specs.declared.silence.Ending.TheVariants.{NoLogin, Silent, GivesPlace}

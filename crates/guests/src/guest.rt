@@ -1,7 +1,7 @@
 //! A session that is open.
 
+use crate::awaited::Awaited;
 use crate::silence::is_of_login;
-use session::Awaited;
 
 /// A session that is open, as far as its place is concerned. Its moments are milliseconds of one clock.
 #[derive(Clone, Copy)]

@@ -2,9 +2,9 @@
 ghost use Rattle.std.specs.Prelude.{◌≡◌, ◌<◌, length, IfSome};
 ghost use Rattle.guests.specs.Silence.{ending, gives_place, is_longest_silent, is_wanted, staying};
 
+use crate::awaited::Awaited;
 use crate::guest::Guest;
 use crate::silence::{Ending, ending_at, is_ready_at};
-use session::Awaited;
 use std::alloc::{AllocError, Global};
 
 /// All sessions that are open, and how many clients wait for a place of theirs.

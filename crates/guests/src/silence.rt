@@ -2,8 +2,8 @@
 ghost use Rattle.std.specs.Prelude.{◌≡◌};
 ghost use Rattle.guests.specs.Silence.{ending_at, is_of_login, is_ready_at, patience, silence_at};
 
+use crate::awaited::Awaited;
 use crate::guest::Guest;
-use session::Awaited;
 
 /// How long a login may take, in milliseconds.
 pub const LOGIN_LIMIT: u64 = 120_000;

@@ -2,22 +2,8 @@
 ghost use Rattle.std.specs.Prelude.{◌≡◌};
 ghost use Rattle.session.specs.Awaiting.{awaited};
 
+use guests::Awaited;
 use machine::Phase;
-
-/// What a session waits for from its client.
-#[derive(Clone, Copy)]
-pub enum Awaited {
-    /// What belongs to a login: the answer to the greeting, a mechanism, or an answer to a challenge.
-    Login,
-    /// A command.
-    Command,
-    /// A command of a report, or the answer to a drive.
-    Report,
-    /// A command of an edit.
-    Edit,
-    /// Nothing any more.
-    Nothing,
-}
 
 /// Says what is awaited in a phase.
 pub fn awaited_in<E, G>(phase: &Phase<E, G>) -> Awaited

@@ -7,5 +7,5 @@ mod incoming;
 mod serve;
 mod session;
 
-pub use awaiting::Awaited;
+pub use guests::Awaited;
 pub use session::{Session, SessionFault};

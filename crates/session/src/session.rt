@@ -6,11 +6,12 @@ ghost use Rattle.access.specs.Points.{content_of};
 ghost use Rattle.machine.specs.{Stages.{is_open, StandsOn, user_in}, Steps.{FeedLost, FeedWritten}};
 ghost use Rattle.session.specs.Awaiting.{awaited};
 
-use crate::awaiting::{Awaited, awaited_in};
+use crate::awaiting::awaited_in;
 use crate::incoming::take_incoming;
 use crate::serve::serve;
 use access::RepoAccess;
 use byte_string::ByteString;
+use guests::Awaited;
 use items::ItemReader;
 use machine::{Options, Phase, Turn, steps_keep_trees};
 use repo_api::Repository;
