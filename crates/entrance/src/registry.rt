@@ -2,10 +2,9 @@
 
 use crate::clock::millis_now;
 use crate::events::Event;
-use conversations::{Awaited, Gate, TalkFault, Watch};
-use guests::Guests;
+use guests::{Awaited, Guests};
 use journals::Journal;
-use session_pool::MAX_SESSIONS;
+use session_pool::{Gate, MAX_SESSIONS, TalkFault, Watch};
 use std::alloc::{AllocError, Global};
 use std::io::Eprint;
 use std::net::{IpAddr, SocketAddr};

@@ -1,9 +1,9 @@
 //! The system's clock, and random words.
 
-use conversations::{Env, EnvSource};
 use journals::moment_now;
 use rand::rngs::StdRng;
 use rand_core::Rng;
+use session_pool::{Env, EnvSource};
 use std::io;
 use std::random::RandomSource;
 use std::time::Clock;
