@@ -3,9 +3,13 @@
 #![tactic(auto)]
 
 mod awaiting;
+mod challenging;
+mod greeting;
 mod incoming;
+mod login;
 mod serve;
 mod session;
+mod welcoming;
 
 pub use guests::Awaited;
 pub use session::{Session, SessionFault};

@@ -6,14 +6,15 @@ ghost use Rattle.machine.specs.{Answers.{malformed, says}, Hearing.Input.Whole, 
 ghost use Rattle.machine.specs.Steps.{Answered, SteppedInPart};
 ghost use Rattle.session.specs.Taking.{input_of};
 
+use crate::greeting::greeting_item;
 use crate::incoming::Incoming;
+use crate::login::{challenge_item, login_item};
 use access::RepoAccess;
 use items::Item;
 use machine::{Options, Phase, Turn};
 use repo_api::Repository;
 use session_commands::main_item;
 use session_commits::{edit_item, skipped_item};
-use session_logins::{challenge_item, greeting_item, login_item};
 use session_replies::{SessionPhase, end_malformed};
 use session_reports::{driven_item, report_item};
 use std::alloc::AllocError;

@@ -1,6 +1,6 @@
 use Rattle.std.proofs.Common.{refl, sym, ◌∙◌}
 use Rattle.session_replies.proofs.Steps.{only_says, stepped}
-use Rattle.session_logins.proofs.welcoming.log_client_in.Goals as goal
+use Rattle.session.proofs.welcoming.log_client_in.Goals as goal
 
 pub returns-in-None : goal.returns-in-None
 returns-in-None g c =

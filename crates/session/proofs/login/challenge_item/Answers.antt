@@ -1,6 +1,6 @@
 use Rattle.std.proofs.Common.{ℕ, List, Some, refl, sym, ap, ◌∙◌}
 use Rattle.session_replies.proofs.Steps.{only_says, stepped}
-use Rattle.session_logins.proofs.login.challenge_item.Goals as goal
+use Rattle.session.proofs.login.challenge_item.Goals as goal
 
 pub returns-in-Some : goal.returns-in-Some
 returns-in-Some g c =

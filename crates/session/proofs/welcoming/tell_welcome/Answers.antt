@@ -1,6 +1,6 @@
 use Rattle.std.proofs.lemmas.Result.{err_from_is_err_and}
 use Rattle.wire_replies.proofs.Parts.{part_none}
-use Rattle.session_logins.proofs.welcoming.tell_welcome.Goals as goal
+use Rattle.session.proofs.welcoming.tell_welcome.Goals as goal
 
 pub returns-in_err-info : goal.returns-in_err-info
 returns-in_err-info g c =

@@ -1,7 +1,7 @@
 use Rattle.std.proofs.{Common.{None, sym, subst}, lemmas.Result.IfOk-weaker}
 use Rattle.std.specs.Prelude.{◌≡◌, ◌≢◌}
 use Rattle.cram.specs.{Answer.IsAnswerOf, declared.fault.CramFault.TheVariants.NoMemory}
-use Rattle.session_logins.proofs.challenging.user_of.Goals as goal
+use Rattle.session.proofs.challenging.user_of.Goals as goal
 
 pub returns-in-Err : goal.returns-in-Err
 returns-in-Err c =

@@ -1,6 +1,6 @@
 use Rattle.std.proofs.Common.{refl}
 use Rattle.session_replies.proofs.Steps.{only_says, stepped}
-use Rattle.session_logins.proofs.login.end_challenge.Goals as goal
+use Rattle.session.proofs.login.end_challenge.Goals as goal
 
 pub returns-in-Some : goal.returns-in-Some
 returns-in-Some g c = rw c.in-Some.is (rw c.with_user.ensures at c.log_client_in.ensures)

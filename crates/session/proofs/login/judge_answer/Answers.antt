@@ -1,6 +1,6 @@
 use Rattle.std.proofs.Common.{sym}
-use Rattle.session_logins.proofs.Follows.{follows}
-use Rattle.session_logins.proofs.login.judge_answer.Goals as goal
+use Rattle.session.proofs.Follows.{follows}
+use Rattle.session.proofs.login.judge_answer.Goals as goal
 
 pub returns-in-Ok : goal.returns-in-Ok
 returns-in-Ok g c =

@@ -2,7 +2,7 @@ use Rattle.std.proofs.Common.{◌≡◌, ℕ, List, Some, None, refl, sym, ap, �
 use Rattle.wire_replies.specs.declared.reply.Offer.{Offer}
 use Rattle.machine.specs.{Logins.{chosen, offer}, declared.login.Mechanism.TheVariants.{Anonymous, CramMd5}}
 use Rattle.session_replies.proofs.Steps.{only_says, stepped}
-use Rattle.session_logins.proofs.login.choose_mechanism.Goals as goal
+use Rattle.session.proofs.login.choose_mechanism.Goals as goal
 
 pub returns-in-Some-Anonymous : goal.returns-in-Some-Anonymous
 returns-in-Some-Anonymous g c =

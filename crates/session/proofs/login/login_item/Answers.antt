@@ -3,7 +3,7 @@ use Rattle.items.specs.View.{value_of}
 use Rattle.commands.specs.Logins.{auth_response}
 use Rattle.machine.proofs.Refusing.{bad, unknown}
 use Rattle.session_replies.proofs.Steps.{only_says, stepped}
-use Rattle.session_logins.proofs.login.login_item.Goals as goal
+use Rattle.session.proofs.login.login_item.Goals as goal
 
 pub returns-in-Ok : goal.returns-in-Ok
 returns-in-Ok g c = rw c.in-Ok.ensures c.choose_mechanism.ensures
