@@ -1,8 +1,9 @@
-//! What holds of sessions at a repository that others change too. The function does nothing: its contract is the law.
-ghost use Rattle.std.specs.Prelude.{List};
+//! What holds of a repository that threads share. The functions do nothing: their contracts are the laws.
+ghost use Rattle.std.specs.Prelude.{◌<◌, ◌++◌, List, length};
 ghost use Rattle.repo_api.specs.Accepted.{Accepted};
+ghost use Rattle.published.specs.Events.{Event, IsHistory, changes_in, state_of};
 ghost use Rattle.session_pool.specs.Serving.{ServesInTurn, Stand};
-ghost use Rattle.shared_runs.specs.Own.{OwnInTurn};
+ghost use Rattle.shared_runs.specs.{Histories.GoesOnWell, Own.OwnInTurn};
 
 use access::SharedAccess;
 use conversations::EnvSource;
@@ -13,3 +14,17 @@ pub fn own_changes_are_asked_for<A: SharedAccess, E: EnvSource>()
     ensures { (old new : Stand E) → ServesInTurn A.rules E.gives old new
         → (turns : List (List Accepted)) × OwnInTurn old.settings old.point.own turns new.point.own }
 {}
+
+/// Shows that, from each moment of the history of a shared repository to each later one, it goes on by the changes of the
+/// events between, whoever made them, and by nothing else: each is accepted, no commit overwrites what was changed since its
+/// base, locks are respected, and old revisions, their properties and the trees stay as they are to.
+pub fn histories_go_on_well()
+    ensures { (xs rest : List Event) → 0 < length xs → IsHistory (xs ++ rest)
+        → GoesOnWell (state_of xs) (changes_in rest) (state_of (xs ++ rest)) }
+{
+    repo_laws::commits_keep_both_sides();
+    repo_laws::changes_of_properties_keep_revisions();
+    pathlocks::accepted_commits_hold_locks();
+    pathlocks::unnamed_locks_stay();
+    pathlocks::tokens_stay_distinct();
+}

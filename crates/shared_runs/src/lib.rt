@@ -3,4 +3,4 @@
 
 mod laws;
 
-pub use laws::own_changes_are_asked_for;
+pub use laws::{histories_go_on_well, own_changes_are_asked_for};
