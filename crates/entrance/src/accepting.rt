@@ -36,7 +36,6 @@ pub trait Halts {
 
 /// Where so many connections come in, so many of one address at a time, with what is known of those that have places, and what
 /// may come to a halt.
-#[derive(Drop)]
 pub struct Entrance<'a, R, H: Drop> {
     pub rt: &'a R,
     pub alloc: Global,
@@ -45,6 +44,20 @@ pub struct Entrance<'a, R, H: Drop> {
     pub per_address: u64,
     pub registry: Registry<'a, R>,
     pub repository: H,
+}
+
+impl<'a, R, H: Drop> Drop for Entrance<'a, R, H> {
+    fn drop(self) {
+        let Entrance {
+            rt: _,
+            alloc: _,
+            listener: _,
+            connections: _,
+            per_address: _,
+            registry: _,
+            repository: _,
+        } = self;
+    }
 }
 
 /// A client that has come, and until when it waits for a place.

@@ -33,12 +33,22 @@ pub type Access<'r, R, F, S, J> = SeatAccess<
 >;
 
 /// What a thread serves sessions at: a seat of a repository in files, and what hands moments and words in.
-#[derive(Drop)]
 pub struct Desk<'r, R: Clock, F: Filed, S: Store, J: Naming> {
     repository: Arc<ServedRepo<F, S, J>>,
     pub seat: ServedSeat<F, J>,
     rt: &'r R,
     envs: SystemEnvs<'r, R>,
+}
+
+impl<'r, R: Clock, F: Filed, S: Store, J: Naming> Drop for Desk<'r, R, F, S, J> {
+    fn drop(self) {
+        let Desk {
+            repository: _,
+            seat: _,
+            rt: _,
+            envs: _,
+        } = self;
+    }
 }
 
 impl<'r, R: Clock + Wait, F: Filed, S: Store, J: Naming> Desk<'r, R, F, S, J> {
@@ -79,9 +89,14 @@ where
 }
 
 /// A repository in files that sessions share.
-#[derive(Drop)]
 pub struct SharedFiles<F: Filed, S: Store, J: Naming> {
     repository: Arc<ServedRepo<F, S, J>>,
+}
+
+impl<F: Filed, S: Store, J: Naming> Drop for SharedFiles<F, S, J> {
+    fn drop(self) {
+        let SharedFiles { repository: _ } = self;
+    }
 }
 
 impl<F: Filed, S: Store, J: Naming> Halts for SharedFiles<F, S, J> {

@@ -14,12 +14,22 @@ use std::sync::{Mutex, Wait};
 
 /// What the threads of a server share: what it was started with, the gate that each piece passes, who is told of
 /// logins and how sessions end, and the places.
-#[derive(Drop)]
 pub struct SessionPool<'p, G, W> {
     options: &'p Options,
     gate: &'p G,
     watch: &'p W,
     places: Mutex<Places>,
+}
+
+impl<'p, G, W> Drop for SessionPool<'p, G, W> {
+    fn drop(self) {
+        let SessionPool {
+            options: _,
+            gate: _,
+            watch: _,
+            places: _,
+        } = self;
+    }
 }
 
 impl<'p, G: Gate, W: Watch> SessionPool<'p, G, W> {
