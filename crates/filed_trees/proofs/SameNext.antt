@@ -138,13 +138,14 @@ module _ (past other : Nodes) (b c : Block) (h : AreSameNext past other b c) whe
   tree_before_same : (n : ℕ) (p : PathValue) → tree_before P n p ≡ tree_before Q n p
   tree_before_same n p = ap (λ o. shared_tree (node_at past) o p) (h.roots n) ∙ tree_same (node_at past) (node_at other) h.nodes (root_at other n) p
 
-  right_kid : (changes : List Changed) (directory : PathValue) (name : Component) (kid : NodeId)
-      → IsRightKid P b changes directory name kid → IsRightKid Q c changes directory name kid
-  right_kid changes directory name kid right = record {
+  right_kid : (changes : List Changed) (place : ℕ) (directory : PathValue) (name : Component) (kid : NodeId)
+      → IsRightKid P b changes place directory name kid → IsRightKid Q c changes place directory name kid
+  right_kid changes place directory name kid right = record {
     component = right.component;
     node = ⊎_elim
-        (λ (new : IsNewKid P b (directory ++ name ∷ []) kid). inl (record {
+        (λ (new : IsNewKid P b place (directory ++ name ∷ []) kid). inl (record {
           here = new.here ∙ h.many;
+          front = new.front;
           at = by (slice_get b.nodes.items kid.place) (slice_get c.nodes.items kid.place) (h.block kid.place) new.at;
         }))
         (λ (old : IsOldKid P changes (directory ++ name ∷ []) kid). inr (record {
@@ -213,8 +214,8 @@ module _ (past other : Nodes) (b c : Block) (h : AreSameNext past other b c) whe
         let right : IsRightNode P b changes k node = next.nodes k node f.1.0 in
         record {
           placed = sym (id_in_same x.path) ∙ ap (id_in P b) (sym s.path) ∙ right.placed ∙ λ i. Some (record { rev = h.many i; place = k });
-          kids = λ name kid is. subst (λ p. IsRightKid Q c changes p name kid) s.path
-              (right_kid changes node.path name kid (right.kids name kid (s.kids name ∙ is)));
+          kids = λ name kid is. subst (λ p. IsRightKid Q c changes k p name kid) s.path
+              (right_kid changes k node.path name kid (right.kids name kid (s.kids name ∙ is)));
           height = high (record { rev = count other; place = k }) x
               (here_look (count other) (record { rev = count other; place = k }) c.nodes.items (node_at other) refl ∙ at);
           file = λ text is.

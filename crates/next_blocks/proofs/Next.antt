@@ -1,12 +1,13 @@
 -- A block that keeps the rules may come after those that are there.
-use Rattle.std.proofs.Common.{◌≡◌, ◌⊎◌, ◌==◌, ℕ, Bool, true, false, List, [], ◌∷◌, ◌++◌, Option, Some, None, is_some, option_and_then, inl, inr, refl, sym, ap}
-use Rattle.std.proofs.{Common.{◌∙◌, if◌then◌else◌}, lemmas.Bool.{false≢true, eqb-true}}
+use Rattle.std.proofs.Common.{◌≡◌, ◌<◌, ◌⊎◌, ◌==◌, ℕ, Bool, true, false, List, [], ◌∷◌, ◌++◌, Option, Some, None, is_some, option_and_then, inl, inr, refl, sym}
+use Rattle.std.proofs.{Common.{ap, ◌∙◌, if◌then◌else◌}, lemmas.Bool.{false≢true, eqb-true}}
 use Rattle.std.specs.Prelude.{IsSomeAnd, slice_get}
 use Rattle.svnpath.specs.Paths.{Component, PathValue}
 use Rattle.repo_api.specs.Histories.{Changed}
-use Rattle.noderevs.specs.{Heights.{AreHigh, IsEnough, IsHeight}, Nodes.{IsBefore, IsThere, kid_named, kid_of, Kids, Look}, Soundness.{AreKidsThere, IsNext}}
-use Rattle.noderevs.specs.{declared.node_rev.Block.Block, declared.node_rev.NodeId.NodeId, declared.node_rev.NodeRev.NodeRev}
-use Rattle.noderevs.proofs.Pushing.{still_there}
+use Rattle.noderevs.specs.{Heights.{AreHigh, IsEnough, IsHeight}, Nodes.{IsBefore, IsThere, kid_named, kid_of, Kids, Look}}
+use Rattle.noderevs.specs.{Soundness.{AreInFront, AreKidsThere, IsNext}, declared.node_rev.Block.Block, declared.node_rev.NodeId.NodeId}
+use Rattle.noderevs.specs.declared.node_rev.NodeRev.{NodeRev}
+use Rattle.noderevs.proofs.Pushing.{same_number, still_there}
 use Rattle.held.specs.Placed.{IsPlacedBlock}
 use Rattle.next_blocks.specs.Rules.{Before, IsNewKid, IsNextRevision, IsOldKid, IsRightRoot, id_in}
 use Rattle.next_blocks.proofs.Walking.{grows, in_block, whole}
@@ -16,15 +17,15 @@ module _ (past : Before) (b : Block) (changes : List Changed) (next : IsNextRevi
   abbrev look : Look
   look = whole past b changes next free closed
 
-  kid_there : (directory : PathValue) (kid : NodeId)
-      → IsNewKid past b directory kid ⊎ IsOldKid past changes directory kid → IsThere look kid
-  kid_there directory kid (inl new) =
+  kid_there : (place : ℕ) (directory : PathValue) (kid : NodeId)
+      → IsNewKid past b place directory kid ⊎ IsOldKid past changes directory kid → IsThere look kid
+  kid_there place directory kid (inl new) =
       by (slice_get b.nodes.items kid.place) (in_block past b changes next free closed kid new.here) new.at
     where
       by : (o : Option NodeRev) → look kid ≡ o → IsSomeAnd o (λ node. node.path ≡ directory) → IsThere look kid
       by None is at = absurd at
       by (Some node) is at = ap is_some is
-  kid_there directory kid (inr old) =
+  kid_there place directory kid (inr old) =
       still_there past.look look (grows past b changes next free closed) kid old.there
 
   -- a node that is there is one of the block, or of an earlier revision
@@ -44,7 +45,7 @@ module _ (past : Before) (b : Block) (changes : List Changed) (next : IsNextRevi
       by : (o : Option NodeRev) → look id ≡ o → option_and_then (kid_of name) o ≡ Some kid → IsThere look kid
       by None at is = absurd (false≢true (ap is_some is))
       by (Some node) at is = of_either id node at
-          (λ here there. kid_there (node.path ++ name ∷ []) kid ((next.nodes id.place node there).kids name kid is).node)
+          (λ here there. kid_there id.place (node.path ++ name ∷ []) kid ((next.nodes id.place node there).kids name kid is).node)
           (λ old. still_there past.look look (grows past b changes next free closed) kid
           (closed id kid name (ap (option_and_then (kid_of name)) old ∙ is)))
 
@@ -75,6 +76,14 @@ module _ (past : Before) (b : Block) (changes : List Changed) (next : IsNextRevi
   place_or n None = n
   place_or n (Some id) = id.place
 
+  -- an entry of the block is in front of its directory
+  in_front : AreInFront past.count b.nodes.items
+  in_front place node name kid at named here = by ((next.nodes place node at).kids name kid named).node
+    where
+      by : IsNewKid past b place (node.path ++ name ∷ []) kid ⊎ IsOldKid past changes (node.path ++ name ∷ []) kid → kid.place < place
+      by (inl new) = new.front
+      by (inr old) = absurd (false≢true (sym (free kid old.there) ∙ ap (λ n. n == past.count) here ∙ same_number past.count))
+
   pub may_come : IsNext past.look past.count b
   may_come = record {
     kids = kids_there;
@@ -82,6 +91,7 @@ module _ (past : Before) (b : Block) (changes : List Changed) (next : IsNextRevi
     apart = λ j k m n at_j at_k same.
         ap (place_or j) (sym (next.nodes j m at_j).placed ∙ ap (id_in past b) same ∙ (next.nodes k n at_k).placed);
     high = high_now;
+    front = in_front;
   }
     where
       by : (o : Option NodeRev) → look b.root ≡ o → IsSomeAnd o IsRightRoot → IsThere look b.root

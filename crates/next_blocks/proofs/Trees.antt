@@ -171,13 +171,13 @@ module _ (past : Before) (b : Block) (changes : List Changed) (next : IsNextRevi
       (All-drop IsComponent (length n.0.path) (n.0.path ++ p)
       ((sound.trees kid.rev (n.0.path ++ p) some).right (n.0.path ++ p) some).components)
 
-  named_on : (name : Component) (p : PathValue) (kid i : NodeId) (directory : PathValue)
-      → IsRightKid past b changes directory name kid → find_id look p (Some kid) ≡ Some i
+  named_on : (name : Component) (p : PathValue) (kid i : NodeId) (place : ℕ) (directory : PathValue)
+      → IsRightKid past b changes place directory name kid → find_id look p (Some kid) ≡ Some i
       → ((n : NodeRev) → kid.rev ≡ past.count → slice_get b.nodes.items kid.place ≡ Some n → All IsComponent p)
       → All IsComponent (name ∷ p)
-  named_on name p kid i directory right led on = All-cons IsComponent name p right.component (by right.node)
+  named_on name p kid i place directory right led on = All-cons IsComponent name p right.component (by right.node)
     where
-      by : IsNewKid past b (directory ++ name ∷ []) kid ⊎ IsOldKid past changes (directory ++ name ∷ []) kid → All IsComponent p
+      by : IsNewKid past b place (directory ++ name ∷ []) kid ⊎ IsOldKid past changes (directory ++ name ∷ []) kid → All IsComponent p
       by (inl new) = by_node (slice_get b.nodes.items kid.place) refl new.at
         where
           by_node : (o : Option NodeRev) → slice_get b.nodes.items kid.place ≡ o
@@ -193,7 +193,7 @@ module _ (past : Before) (b : Block) (changes : List Changed) (next : IsNextRevi
       → All IsComponent (name ∷ p)
   named_by place node at name p i None is led on = absurd (false≢true (sym (ap is_some (nowhere look p)) ∙ ap is_some led))
   named_by place node at name p i (Some kid) is led on =
-      named_on name p kid i node.path ((next.nodes place node at).kids name kid is) led (λ n here there. on kid n led here there)
+      named_on name p kid i place node.path ((next.nodes place node at).kids name kid is) led (λ n here there. on kid n led here there)
 
   named : (p : PathValue) (id : NodeId) (node : NodeRev) (i : NodeId) → id.rev ≡ past.count
       → slice_get b.nodes.items id.place ≡ Some node → find_id look p (Some id) ≡ Some i → All IsComponent p

@@ -105,12 +105,12 @@ module _ (past : Before) (b : Block) (changes : List Changed) (next : IsNextRevi
   down directory name p = append_assoc directory (name ∷ []) p
 
   kid_on : (k : ℕ) (node : NodeRev) → slice_get b.nodes.items k ≡ Some node → (name : Component) (p : PathValue) (kid i : NodeId)
-      → kid_of name node ≡ Some kid → IsRightKid past b changes node.path name kid → find_id whole p (Some kid) ≡ Some i
+      → kid_of name node ≡ Some kid → IsRightKid past b changes k node.path name kid → find_id whole p (Some kid) ≡ Some i
       → ((n : NodeRev) → kid.rev ≡ past.count → slice_get b.nodes.items kid.place ≡ Some n → IsFound (n.path ++ p) i)
       → IsFound (node.path ++ name ∷ p) i
   kid_on k node at name p kid i named right led on = by right.node
     where
-      by : IsNewKid past b (node.path ++ name ∷ []) kid ⊎ IsOldKid past changes (node.path ++ name ∷ []) kid
+      by : IsNewKid past b k (node.path ++ name ∷ []) kid ⊎ IsOldKid past changes (node.path ++ name ∷ []) kid
           → IsFound (node.path ++ name ∷ p) i
       by (inl new) = by_node (slice_get b.nodes.items kid.place) refl new.at
         where

@@ -1,5 +1,5 @@
 -- The rules by which a block of nodes may be the next revision of a repository.
-use Rattle.std.specs.Prelude.{◌≡◌, ◌≤◌, ◌⊎◌, ◌-◌, ◌+◌, ◌==◌, ℕ, true, false, Bool, List, [], ◌∷◌, ◌++◌, length, Option, Some, None, IsSomeAnd, Contains}
+use Rattle.std.specs.Prelude.{◌≡◌, ◌≤◌, ◌<◌, ◌⊎◌, ◌-◌, ◌+◌, ◌==◌, ℕ, true, false, Bool, List, [], ◌∷◌, ◌++◌, length, Option, Some, None, IsSomeAnd, Contains}
 use Rattle.std.specs.{Prelude.{slice_get, take}, Arc.arc_value, List.{list_all, list_any, range_with_len}}
 use Rattle.svnpath.specs.{Components.IsComponent, Paths.{Component, PathValue}, declared.component.TheConstants.DEPTH_LIMIT}
 use Rattle.repo_api.specs.{Histories.Changed, Marks.shown, Properties.PropertyList, Trees.{is_directory_content, Tree}, declared.entry.Content.Content}
@@ -43,9 +43,10 @@ abbrev pub is_made : List Changed → PathValue → Bool
 is_made changes p =
     list_any (λ depth. makes_at changes (take depth p)) (range_with_len 0 (length p + 1))
 
--- an entry at this path is a node of the block, which was made there
-pub record IsNewKid (past : Before) (b : Block) (path : PathValue) (kid : NodeId) : Type 0 where
+-- an entry at this path is a node of the block in front of this place, which was made there
+pub record IsNewKid (past : Before) (b : Block) (place : ℕ) (path : PathValue) (kid : NodeId) : Type 0 where
   pub here : kid.rev ≡ past.count
+  pub front : kid.place < place
   pub at : IsSomeAnd (slice_get b.nodes.items kid.place) (λ node. node.path ≡ path)
 
 -- an entry at this path is a node of an earlier revision, which was there before if nothing was made
@@ -55,11 +56,11 @@ pub record IsOldKid (past : Before) (changes : List Changed) (path : PathValue)
   pub there : IsThere past.look kid
   pub stays : is_made changes path ≡ false → id_before past path ≡ Some kid
 
--- an entry of a directory of the block
-pub record IsRightKid (past : Before) (b : Block) (changes : List Changed) (directory : PathValue)
-    (name : Component) (kid : NodeId) : Type 0 where
+-- an entry of the directory at this place of the block
+pub record IsRightKid (past : Before) (b : Block) (changes : List Changed) (place : ℕ)
+    (directory : PathValue) (name : Component) (kid : NodeId) : Type 0 where
   pub component : IsComponent name
-  pub node : IsNewKid past b (directory ++ name ∷ []) kid
+  pub node : IsNewKid past b place (directory ++ name ∷ []) kid
       ⊎ IsOldKid past changes (directory ++ name ∷ []) kid
 
 -- a file has no entries, and its text keeps the limit
@@ -90,7 +91,7 @@ pub record IsRightNode (past : Before) (b : Block) (changes : List Changed) (pla
     (node : NodeRev) : Type 0 where
   pub placed : id_in past b node.path ≡ Some (record { rev = past.count; place = place })
   pub kids : (name : Component) (kid : NodeId) → kid_of name node ≡ Some kid
-      → IsRightKid past b changes node.path name kid
+      → IsRightKid past b changes place node.path name kid
   pub height : IsHeight (beside past b) node.kids node.height
   pub file : (text : List ℕ) → arc_value node.content ≡ File text → IsRightFile node text
   pub own : NamesOwn past node

@@ -26,13 +26,14 @@ pub(crate) fn is_id(found: Option<NodeId>, id: NodeId) -> bool
 }
 
 impl NextBlock<'_> {
-    /// Says whether an entry at a path is a node of the block that was made there.
-    fn is_new_kid(self, path: &Path, kid: NodeId) -> bool
+    /// Says whether an entry at a path is a node of the block in front of a place, which was made there.
+    fn is_new_kid(self, place: usize, path: &Path, kid: NodeId) -> bool
         ensures { Decides result (IsNewKid (past_of self.entry.nodes.now) self.entry.block.now
-            path.now kid) }
+            place path.now kid) }
     {
-        match self.block.nodes.get(kid.place as usize) {
-            Some(node) => self.is_new(kid) && is_same_path(&node.path, path),
+        let at = kid.place as usize;
+        match self.block.nodes.get(at) {
+            Some(node) => self.is_new(kid) && at < place && is_same_path(&node.path, path),
             None => false,
         }
     }
@@ -49,34 +50,40 @@ impl NextBlock<'_> {
                 || is_id(self.find_before(path.components()), kid))
     }
 
-    /// Says whether an entry of a directory is one that it may have.
+    /// Says whether an entry of a directory, which is at a place of the block, is one that it may have.
     fn is_right_kid(
         self,
         alloc: Global,
+        place: usize,
         directory: &Path,
         name: &ByteString,
         kid: NodeId,
     ) -> Result<bool, AllocError>
         requires { IsStrictlySortedBy path_cmp (keys_of self.changes.now) }
         ensures { IfOk result (λ answer. Decides answer (IsRightKid
-            (past_of self.entry.nodes.now) self.entry.block.now self.entry.changes.now directory.now
-            name.now kid)) }
+            (past_of self.entry.nodes.now) self.entry.block.now self.entry.changes.now place
+            directory.now name.now kid)) }
     {
         let path = directory.child(alloc, name.clone()?)?;
-        let is_placed = self.is_new_kid(&path, kid) || self.is_old_kid(&path, kid);
+        let is_placed = self.is_new_kid(place, &path, kid) || self.is_old_kid(&path, kid);
         Ok(is_placed && is_component(name.as_slice()))
     }
 
-    /// Says whether the entries of a node are those that it may have.
-    pub(crate) fn are_right_kids(self, alloc: Global, node: &NodeRev) -> Result<bool, AllocError>
+    /// Says whether the entries of a node, at its place of the block, are those that it may have.
+    pub(crate) fn are_right_kids(
+        self,
+        alloc: Global,
+        place: usize,
+        node: &NodeRev,
+    ) -> Result<bool, AllocError>
         requires { IsStrictlySortedBy path_cmp (keys_of self.changes.now) }
         ensures { IfOk result (λ answer. Decides answer ((name : Component) (kid : NodeId)
             → kid_of name node.now ≡ Some kid → IsRightKid (past_of self.entry.nodes.now)
-            self.entry.block.now self.entry.changes.now node.now.path name kid)) }
+            self.entry.block.now self.entry.changes.now place node.now.path name kid)) }
     {
         let entries = node.kids.entries(alloc)?;
         for entry in &entries {
-            if !self.is_right_kid(alloc, &node.path, &entry.0, entry.1)? {
+            if !self.is_right_kid(alloc, place, &node.path, &entry.0, entry.1)? {
                 return Ok(false);
             }
         }

@@ -107,7 +107,7 @@ impl NextBlock<'_> {
         if !self.has_its_height(alloc, node)? || !is_right_file(alloc, node)? {
             return Ok(false);
         }
-        if !self.names_own(alloc, node)? || !self.are_right_kids(alloc, node)? {
+        if !self.names_own(alloc, node)? || !self.are_right_kids(alloc, place, node)? {
             return Ok(false);
         }
         Ok(self.is_placed(place, node) && self.keeps_own(node))

@@ -4,3 +4,5 @@ pub mod Empty
 pub mod FirstBlock
 pub mod Names
 pub mod Heights
+pub mod Apart
+pub mod Earlier

@@ -1,13 +1,13 @@
 -- The nodes of a further revision, behind those that are there.
 use Rattle.std.proofs.Common.{◌≡◌, ◌==◌, ℕ, ◌<◌, Bool, true, false, List, [], ◌∷◌, ◌++◌, Option, Some, None, option_map, option_and_then, length, refl, sym, ap}
-use Rattle.std.proofs.{Common.{subst, ◌∙◌, arith, length-append, rules, ◌≢◌, ⊎_elim}, lemmas.Bool.{false≢true, cases_eq, cases_lt}}
+use Rattle.std.proofs.{Common.{subst, ◌∙◌, arith, length-append, rules, ◌≢◌, ⊎_elim, is_some}, lemmas.Bool.{false≢true, cases_eq, cases_lt}}
 use Rattle.std.proofs.{lemmas.List.get_or_append_left, lemmas.Option.{slice_get_within, slice_get_past, slice_get-get_or, get_or_from_slice_get}}
 use Rattle.std.proofs.Math.Seq.{get_or-append_seam}
 use Rattle.std.specs.Prelude.{IsSome, if◌then◌else◌, slice_get}
-use Rattle.svnpath.specs.Paths.{PathValue}
+use Rattle.svnpath.specs.Paths.{Component, PathValue}
 use Rattle.noderevs.specs.{Nodes.{Look, node_in, root_in, kid_of, kid_at, IsThere, IsBefore, Grows, with_block}, Heights.AreHigh}
-use Rattle.noderevs.specs.{Views.{shared_entry, shared_tree}, Soundness.{AreKidsThere, AreRootsThere, AreApart, IsNext}, declared.node_rev.Block.Block}
-use Rattle.noderevs.specs.{declared.node_rev.NodeId.NodeId, declared.node_rev.NodeRev.NodeRev}
+use Rattle.noderevs.specs.{Views.{shared_entry, shared_tree}, Soundness.{AreKidsThere, AreRootsThere, AreApart, AreKidsEarlier, IsEarlier, IsNext}}
+use Rattle.noderevs.specs.{declared.node_rev.Block.Block, declared.node_rev.NodeId.NodeId, declared.node_rev.NodeRev.NodeRev}
 
 pub same_number : (n : ℕ) → (n == n) ≡ true
 same_number n = search (rules, arith)
@@ -122,6 +122,46 @@ apart_pushed blocks b old next = subst AreApart (λ i id. sym (pushed_look block
     apart : AreApart w
     apart i j m n is_m is_n same path =
         by (i.rev == length blocks) i j m n refl (ap (λ r. r == length blocks) (sym same)) is_m is_n same path
+
+-- a node that is there is of a revision that is there
+rev_there : (blocks : List Block) (id : NodeId) → IsThere (node_in blocks) id → id.rev < length blocks
+rev_there blocks id there = ⊎_elim
+    (λ lt. lt)
+    (λ ge. absurd (false≢true (subst (λ o. IsSome o) (ap (option_and_then (λ c. slice_get c.nodes.items id.place)) (slice_get_past blocks id.rev ge)) there)))
+    (cases_lt id.rev (length blocks))
+
+pub earlier_pushed : (blocks : List Block) (b : Block) → AreKidsEarlier (node_in blocks) → IsNext (node_in blocks) (length blocks) b
+    → AreKidsEarlier (node_in (blocks ++ b ∷ []))
+earlier_pushed blocks b old next = subst AreKidsEarlier (λ i id. sym (pushed_look blocks b id) i) earlier
+  where
+    n : ℕ
+    n = length blocks
+
+    w : Look
+    w = with_block (node_in blocks) n b.nodes.items
+
+    -- an entry of a node of the block
+    of_block : (id kid : NodeId) (name : Component) → id.rev ≡ n → IsThere w kid → (o : Option NodeRev) → slice_get b.nodes.items id.place ≡ o
+        → option_and_then (kid_of name) o ≡ Some kid → IsEarlier kid id
+    of_block id kid name here there None at is = absurd (false≢true (ap is_some is))
+    of_block id kid name here there (Some node) at is = by (kid.rev == n) refl there
+      where
+        by : (x : Bool) → (kid.rev == n) ≡ x → IsSome (if x then slice_get b.nodes.items kid.place else node_in blocks kid) → IsEarlier kid id
+        by true new there =
+            let same = alike kid.rev n new in
+            let lt = next.front id.place node name kid at is same in
+            (omega (arith, same, here), λ _. lt)
+        by false before there =
+            let within = rev_there blocks kid there in
+            (omega (arith, within, here), λ e. absurd (omega (arith, within, here, e)))
+
+    earlier : AreKidsEarlier w
+    earlier id kid name is = by (id.rev == n) refl is
+      where
+        by : (x : Bool) → (id.rev == n) ≡ x → option_and_then (kid_of name) (if x then slice_get b.nodes.items id.place else node_in blocks id) ≡ Some kid
+            → IsEarlier kid id
+        by true here at = of_block id kid name (alike id.rev n here) (next.kids id kid name is) (slice_get b.nodes.items id.place) refl at
+        by false before at = old id kid name at
 
 -- the trees
 pub last_tree : (blocks : List Block) (b : Block) (q : PathValue)

@@ -1,7 +1,7 @@
 //! What ids and paths lead to. No look-up takes memory but those that answer lists.
 ghost use Rattle.std.specs.Prelude.{◌≡◌, ◌++◌, true, option_copied, option_and_then, option_map, slice_get, None, Some, IfOk};
 ghost use Rattle.svnpath.specs.Paths.{Component, PathValue};
-ghost use Rattle.repo_api.specs.{Kinds.{content_kind, created_of, kind_of, node_properties}, Trees.{content_text, text_of}};
+ghost use Rattle.repo_api.specs.{Kinds.{content_kind, created_of, kind_of, node_properties}, Trees.{content_text, text_of}, declared.entry.Entry.Entry};
 ghost use Rattle.noderevs.specs.{Held.{blocks_of, node_at, root_at, count}, Nodes.{kid_at, kid_named}, Views.{find_id, shared_tree}};
 
 use crate::node_rev::{Block, NodeId, NodeRev};
@@ -157,7 +157,8 @@ impl Nodes {
         }
     }
 
-    /// Says whether two paths of roots' trees lead to one node: then all beneath them is the same.
+    /// Says whether two paths of roots' trees lead to one node: then all beneath them is the same. Two
+    /// nodes have unequal last changes.
     pub fn is_same(
         &self,
         root: Option<NodeId>,
@@ -165,8 +166,11 @@ impl Nodes {
         other: Option<NodeId>,
         other_path: &Path,
     ) -> bool
-        ensures { result ≡ true → (rest : PathValue)
+        ensures same { result ≡ true → (rest : PathValue)
             → shared_tree (node_at self.now) root (path.now ++ rest) ≡ shared_tree (node_at self.now) other (other_path.now ++ rest) }
+        ensures apart { (x y : Entry) → shared_tree (node_at self.now) root path.now ≡ Some x
+            → shared_tree (node_at self.now) other other_path.now ≡ Some y → x.last ≡ y.last
+            → result ≡ true }
     {
         match (
             self.find_in(root, path.components()),

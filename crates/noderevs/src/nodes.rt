@@ -1,5 +1,5 @@
 //! The nodes of all revisions.
-ghost use Rattle.noderevs.specs.{Heights.AreHigh, Nodes.{node_in, root_in}, Soundness.{AreKidsThere, AreRootsThere, AreApart}};
+ghost use Rattle.noderevs.specs.{Heights.AreHigh, Nodes.{node_in, root_in}, Soundness.{AreKidsThere, AreRootsThere, AreApart, AreKidsEarlier}};
 
 use crate::node_rev::Block;
 use pvec::PVec;
@@ -12,6 +12,7 @@ pub struct Nodes {
     ghost roots: { AreRootsThere (node_in blocks) (root_in blocks) },
     ghost high: { AreHigh (node_in blocks) },
     ghost apart: { AreApart (node_in blocks) },
+    ghost earlier: { AreKidsEarlier (node_in blocks) },
 }
 
 impl Drop for Nodes {

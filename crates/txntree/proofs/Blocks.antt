@@ -113,7 +113,7 @@ kids_of_closed look closed id kid name is = subst (λ o. IfSome o (IsThere look)
 pub next_if : {Y : Type 0} (r : Result Block Y) (look : Look) (rev : ℕ) (t : Tree) → AreHigh look → IfOk r (IsSealOf look rev t)
     → IfOk r (λ b. IsThere (with_block look rev b.nodes.items) b.root) → IfOk r (IsNext look rev)
 next_if (Ok b) look rev t high sealed there =
-    record { kids = kids_of_closed (with_block look rev b.nodes.items) sealed.closed; root = there; high = sealed.high high; apart = sealed.whole.once }
+    record { kids = kids_of_closed (with_block look rev b.nodes.items) sealed.closed; root = there; high = sealed.high high; apart = sealed.whole.once; front = sealed.front }
 next_if (Err e) look rev t high sealed there = there
 
 pub ok_weaker : {X Y : Type 0} (r : Result X Y) (P Q : X → Type 0) → ((x : X) → P x → Q x) → IfOk r P → IfOk r Q

@@ -6,6 +6,7 @@ pub mod Changes
 pub mod Seals
 pub mod Entries
 pub mod High
+pub mod Front
 pub mod Blocks
 pub mod Staying
 pub mod Sharing

@@ -110,7 +110,7 @@ pub begins : (look : Look) (rev : ℕ) (path : PathValue) (self : OpenNode) (blo
     → ((n : Component) → left n ≡ changed_at self.changed n)
     → ((n : Component) → kid_named kids n ≡ kid_at look self.base n) → IsSealing look rev path self block block left kids
 begins look rev path self block left kids all copied = record {
-  grown = record { grows = grows_same (with_block look rev block); closed = λ c b h. h; high = λ c b h x. x };
+  grown = record { grows = grows_same (with_block look rev block); closed = λ c b h. h; high = λ c b h x. x; front = λ c b h x. x };
   there = λ closed before n. subst (λ o. IfSome o (IsThere (with_block look rev block))) (sym (copied n))
       (still_if look (with_block look rev block) (behind look rev block before) (kid_at look self.base n) (kids_there look closed self.base n));
   trees = λ closed before h n q.
@@ -134,6 +134,7 @@ grown_then look rev before now next first more = record {
   grows = grows_then _ (with_block look rev now) _ first.grows more.grows;
   closed = λ c b h. more.closed c b (first.closed c b h);
   high = λ c b h x. more.high c b (first.closed c b h) (first.high c b h x);
+  front = λ c b h x. more.front c b (first.closed c b h) (first.front c b h x);
 }
 
 -- one change more

@@ -2,7 +2,7 @@
 use Rattle.std.specs.Prelude.{◌≡◌, ◌≤◌, ◌<◌, length, ℕ, List, [], ◌∷◌, ◌++◌, Option, Some, None, IsSome, IfSome, option_map, slice_get, if◌then◌else◌}
 use Rattle.svnpath.specs.Paths.{Component, PathValue, same_component}
 use Rattle.repo_api.specs.{Merge.sealed, Trees.Tree, declared.entry.Entry.Entry}
-use Rattle.noderevs.specs.{Heights.AreHigh, Nodes.{Grows, IsBefore, IsClosed, IsThere, kid_at, kid_named, Kids, Look, with_block}}
+use Rattle.noderevs.specs.{Heights.AreHigh, Nodes.{Grows, IsBefore, IsClosed, IsThere, kid_at, kid_named, Kids, Look, with_block}, Soundness.AreInFront}
 use Rattle.noderevs.specs.{declared.node_rev.Block.Block, declared.node_rev.NodeId.NodeId, declared.node_rev.NodeRev.NodeRev}
 use Rattle.txntree.specs.{Spots.{Spot, flat, find, step, shared_spot, change_spot}, Spots.Spot.{Shared, Opened}, declared.open.OpenNode.OpenNode}
 use Rattle.txntree.specs.declared.open.Change.{Change}
@@ -58,10 +58,11 @@ pub record IsBlockOf (look : Look) (rev : ℕ) (block : List NodeRev) (root : No
       → m.path ≡ n.path → j ≡ k
 
 -- what a tree is sealed as: a block whose nodes, with those that are there, are closed and have
--- their heights, and whose root has that tree with closed marks
+-- their heights, each behind its entries, and whose root has that tree with closed marks
 pub record IsSealOf (look : Look) (rev : ℕ) (t : Tree) (b : Block) : Type 0 where
   pub closed : IsClosed (with_block look rev b.nodes.items)
   pub high : AreHigh look → AreHigh (with_block look rev b.nodes.items)
+  pub front : AreInFront rev b.nodes.items
   pub tree : (q : PathValue)
       → flat (with_block look rev b.nodes.items) (Shared b.root) q ≡ sealed_at rev [] t q
   pub whole : IsBlockOf look rev b.nodes.items b.root
@@ -72,13 +73,14 @@ abbrev pub IfClosed : Look → ℕ → List NodeRev → Type 0 → Type 0
 IfClosed look rev block P =
     IsClosed look → IsBefore look rev → IsClosed (with_block look rev block) → P
 
--- a block has grown: the nodes that were there stay, and all are closed and have their heights as
--- before
+-- a block has grown: the nodes that were there stay, and all are closed, have their heights and are
+-- behind their entries as before
 pub record BlockGrows (look : Look) (rev : ℕ) (before now : List NodeRev) : Type 0 where
   pub grows : Grows (with_block look rev before) (with_block look rev now)
   pub closed : IfClosed look rev before (IsClosed (with_block look rev now))
   pub high : IfClosed look rev before (AreHigh (with_block look rev before)
       → AreHigh (with_block look rev now))
+  pub front : IfClosed look rev before (AreInFront rev before → AreInFront rev now)
 
 -- what stands at a path is sealed as this node, or as none where nothing stands: it is there, has the
 -- tree as that of the revision, and each place that is new in the block is under it

@@ -3,7 +3,7 @@ use Rattle.std.specs.{Map.Iter.deref_pair, Cmp.Lexicographic.slice_cmp, Ordering
 use Rattle.repo_api.specs.declared.entry.Mark.TheVariants.{Made}
 use Rattle.noderevs.specs.{Heights.IsHeight, Held.node_at, Nodes.with_block}
 use Rattle.txntree.specs.{Changes.first_of, Spots.change_spot, Sealing.{IsSealedAs, IsSealing}}
-use Rattle.txntree.proofs.{Changes.{first_gone, first_here, sorted_rest}, High.after_high, Walking.{is_spot, gone_spot}}
+use Rattle.txntree.proofs.{Changes.{first_gone, first_here, sorted_rest}, Front.after_front, High.after_high, Walking.{is_spot, gone_spot}}
 use Rattle.txntree.proofs.Seals.{after_as, after_closed, after_grows, begins, goes_on, gone_as, grown_then}
 use Rattle.txntree.proofs.open.+seal.Goals as goal
 
@@ -53,6 +53,9 @@ OpenNode::sealed-returns-clause-grown t c =
           (so.grown.closed closed before block) (so.there closed before)
           (subst (λ b. IsHeight (with_block look c.args.rev b) c.loop-name.kids c.in_ok-height.height) c.deref.ensures.value c.in_ok-height.ensures)
           (so.grown.high closed before block high);
+      front = λ closed before block front.
+          after_front c.append.result look c.args.rev c.loop-name.block.items c.append.new.block.items _ c.append.ensures.ok c.append.ensures.err
+          (so.there closed before) (so.grown.front closed before block front);
     }
 
 pub OpenNode::sealed-returns-clause-ok : goal.OpenNode::sealed-returns-clause-ok

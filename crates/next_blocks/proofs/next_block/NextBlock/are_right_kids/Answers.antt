@@ -10,7 +10,7 @@ use Rattle.next_blocks.proofs.next_block.NextBlock.are_right_kids.Goals as goal
 pub loop-entry-preserved : goal.loop-entry-preserved
 loop-entry-preserved c =
     let right = λ (e : Bor (Component × NodeId)). IsRightKid (past_of c.args.self.nodes.now) c.args.self.block.now
-    c.args.self.changes.now c.args.node.now.path e.now.0 e.now.1 in
+    c.args.self.changes.now c.args.place c.args.node.now.path e.now.0 e.now.1 in
     All-more right c.deref-entry-items.result.now c.loop-entry.entry-index c.entry-item.result c.loop-entry-test.true
     c.loop-entry.invariant
     (subst right c.entry-item.is (c.in_ok-is_right_kid.ensures.0 c.if-not-branch.false))
@@ -19,9 +19,9 @@ pub returns : goal.returns
 returns c = (
   λ yes name kid is.
       let right = λ (e : Bor (Component × NodeId)). IsRightKid (past_of c.args.self.nodes.now) c.args.self.block.now
-      c.args.self.changes.now c.args.node.now.path e.now.0 e.now.1 in
+      c.args.self.changes.now c.args.place c.args.node.now.path e.now.0 e.now.1 in
       let items = c.deref-entry-items.result.now in
-      of_each (IsRightKid (past_of c.args.self.nodes.now) c.args.self.block.now c.args.self.changes.now c.args.node.now.path)
+      of_each (IsRightKid (past_of c.args.self.nodes.now) c.args.self.block.now c.args.self.changes.now c.args.place c.args.node.now.path)
       c.args.node.now.kids items (ap (map deref) c.deref-entry-items.ensures.value ∙ c.in_ok-entries.ensures.entries)
       (All-same right items (take c.loop-entry.entry-index items) (sym (take_all _ items c.loop-entry-test.false)) c.loop-entry.invariant)
       name kid is,

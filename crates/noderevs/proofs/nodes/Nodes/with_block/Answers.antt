@@ -1,6 +1,7 @@
 use Rattle.std.proofs.Common.{◌++◌, ◌∷◌, [], length, sym, ap, subst, ◌∙◌}
-use Rattle.noderevs.specs.{Held.blocks_of, Nodes.{node_in, root_in}, Heights.AreHigh, Soundness.{AreKidsThere, AreRootsThere, AreApart}, Views.shared_tree}
-use Rattle.noderevs.proofs.Pushing.{pushed_look, kids_pushed, roots_pushed, high_pushed, apart_pushed, last_tree, other_tree}
+use Rattle.noderevs.specs.{Held.blocks_of, Nodes.{node_in, root_in}, Heights.AreHigh, Soundness.{AreKidsThere, AreRootsThere, AreApart, AreKidsEarlier}}
+use Rattle.noderevs.specs.Views.{shared_tree}
+use Rattle.noderevs.proofs.Pushing.{pushed_look, kids_pushed, roots_pushed, high_pushed, apart_pushed, earlier_pushed, last_tree, other_tree}
 use Rattle.noderevs.proofs.nodes.Nodes.with_block.Goals as goal
 
 pub invariant_of-result : goal.invariant_of-result
@@ -12,6 +13,7 @@ invariant_of-result c =
       roots = subst (λ bs. AreRootsThere (node_in bs) (root_in bs)) same (roots_pushed old c.args.block c.args.self.now.roots c.requires.next);
       high = subst (λ bs. AreHigh (node_in bs)) same (high_pushed old c.args.block c.requires.next);
       apart = subst (λ bs. AreApart (node_in bs)) same (apart_pushed old c.args.block c.args.self.now.apart c.requires.next);
+      earlier = subst (λ bs. AreKidsEarlier (node_in bs)) same (earlier_pushed old c.args.block c.args.self.now.earlier c.requires.next);
     }
 
 pub returns-clause-nodes : goal.returns-clause-nodes

@@ -1,8 +1,8 @@
 use Rattle.std.proofs.Common.{◌≡◌, [], Some, length, sym, ap, subst, ◌∙◌}
-use Rattle.noderevs.specs.{Heights.AreHigh, Held.node_at, Nodes.{IsClosed, with_block}}
+use Rattle.noderevs.specs.{Heights.AreHigh, Held.node_at, Nodes.{IsClosed, with_block}, Soundness.AreInFront}
 use Rattle.svnpath.specs.Paths.{PathValue}
 use Rattle.txntree.specs.{Spots.flat, Spots.Spot.{Shared, Opened}, Sealing.{sealed_at, AreUnder}}
-use Rattle.txntree.proofs.{High.empty_high, Seals.empty_closed, Blocks.block_of}
+use Rattle.txntree.proofs.{Front.empty_front, High.empty_high, Seals.empty_closed, Blocks.block_of}
 use Rattle.txntree.proofs.open.OpenNode.block.Goals as goal
 
 pub returns-clause-ok : goal.returns-clause-ok
@@ -18,6 +18,8 @@ returns-clause-ok c = λ closed before.
       closed = c.sealed.ensures.grown.closed closed before empty;
       high = λ high. c.sealed.ensures.grown.high closed before empty
           (subst (λ b. AreHigh (with_block look rev b)) (sym c.new-block.ensures.items) (empty_high look rev before closed high));
+      front = c.sealed.ensures.grown.front closed before empty
+          (subst (AreInFront rev) (sym c.new-block.ensures.items) (empty_front rev));
       tree = tree;
       whole = block_of look rev now root (Opened c.args.self.now) before tree
           (subst (λ b. AreUnder (with_block look rev now) rev (length b) (length now) (Some root)) c.new-block.ensures.items (c.in_ok-root.ensures.ok.under closed before empty));
