@@ -65,6 +65,8 @@ pub fn open<S: Store, R: Reader>(alloc: Global, store: S) -> Result<(Saves<S>, R
         → IsSaved S.Store opened.0 files) }
     ensures goes_on { IfOk result (λ opened. opened.0.is_halted ≡ false) }
     ensures reads { IfOk result (λ opened. OnlyReads S.Store store opened.0.store) }
+    // No failure is counted in an opening that answers Ok.
+    ensures steady { IfOk result (λ opened. S.failed opened.0.store ≡ S.failed store) }
     ensures unopened { IfErr result (λ unopened. IsUnopened S.Store R.faulty store unopened) }
 {
     let mut store = store;
@@ -88,6 +90,7 @@ pub fn read_all<S: Store, R: Reader>(
     store: &mut S,
 ) -> Result<(R, u32, Layout), StoreFault>
     ensures reads { Reads S.Store store.old store.new result }
+    ensures steady { OnOk result (S.failed store.new ≡ S.failed store.old) }
     ensures found { S.is_honest store.new → IfOk result (λ read. HasTaken R.took
         (S.holds store.old) read.0) }
     ensures count { S.is_honest store.new → IfOk result (λ read. count_in
@@ -113,6 +116,7 @@ fn read_head<S: Store, R: Reader>(
     store: &mut S,
 ) -> Result<(R, u32, Layout), StoreFault>
     ensures reads { Reads S.Store store.old store.new result }
+    ensures steady { OnOk result (S.failed store.new ≡ S.failed store.old) }
     ensures took { S.is_honest store.new → IfOk result (λ begun. R.took begun.0
         (read_below begun.2 (S.holds store.old) 0)) }
     ensures count { S.is_honest store.new → IfOk result (λ begun. count_in
@@ -150,6 +154,7 @@ fn read_rest<S: Store, R: Reader>(
     count: u32,
 ) -> Result<(), StoreFault>
     ensures reads { Reads S.Store store.old store.new result }
+    ensures steady { OnOk result (S.failed store.new ≡ S.failed store.old) }
     ensures took { S.is_honest store.new → R.took reader.old (read_below layout (S.holds store.old) 0)
         → OnOk result (R.took reader.new (reached layout (S.holds store.old) count)) }
     ensures faulty { S.is_honest store.new → R.took reader.old (read_below layout (S.holds store.old) 0)
@@ -186,6 +191,7 @@ fn read_revisions<S: Store, R: Reader>(
     count: u32,
 ) -> Result<(), StoreFault>
     ensures reads { Reads S.Store store.old store.new result }
+    ensures steady { OnOk result (S.failed store.new ≡ S.failed store.old) }
     ensures took { S.is_honest store.new → R.took reader.old (read_below layout (S.holds store.old) 0)
         → OnOk result (R.took reader.new (read_below layout (S.holds store.old) count)) }
     ensures faulty { S.is_honest store.new → R.took reader.old (read_below layout (S.holds store.old) 0)
@@ -206,6 +212,7 @@ fn read_revision<S: Store, R: Reader>(
     number: u32,
 ) -> Result<(), StoreFault>
     ensures reads { Reads S.Store store.old store.new result }
+    ensures steady { OnOk result (S.failed store.new ≡ S.failed store.old) }
     ensures took { S.is_honest store.new → OnOk result ((files : Files) → R.took reader.old files
         → R.took reader.new (with_one_more files (revision_files layout (S.holds store.old) number))) }
     ensures faulty { S.is_honest store.new → (files : Files) → R.took reader.old files
@@ -225,6 +232,7 @@ fn read_locks<S: Store, R: Reader>(
     reader: &mut R,
 ) -> Result<(), StoreFault>
     ensures reads { Reads S.Store store.old store.new result }
+    ensures steady { OnOk result (S.failed store.new ≡ S.failed store.old) }
     ensures took { S.is_honest store.new → OnOk result ((files : Files) → R.took reader.old files
         → R.took reader.new (with_read_locks files (S.holds store.old FileName.Locks))) }
     ensures faulty { S.is_honest store.new → IfStoreFindsFaulty result (R.faulty.locks

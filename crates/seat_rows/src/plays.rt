@@ -6,7 +6,7 @@ use crate::commits::{commit, youngest};
 use crate::halts::{HaltTold, told_both};
 use crate::looks::are_seen;
 use crate::properties::is_changed_by_one;
-use crate::releases::{ReleaseTold, told_of_release};
+use crate::releases::{ReleaseTold, is_released_for_both, told_of_release};
 use crate::saves::youngest_in_save;
 use crate::seats::{Access, Place, SoundTrees, two_seats};
 use crate::sixteen::{has_all, works};
@@ -28,6 +28,8 @@ pub(crate) enum Play {
     Properties,
     /// They commit, one after another, and are told this.
     Halts(HaltTold),
+    /// One hands its lock in with a commit while nothing fails, and both see that it is released.
+    IsReleased,
     /// One hands its lock in with a commit, the other commits, and they are told this.
     Releases(ReleaseTold),
 }
@@ -43,6 +45,7 @@ fn is_played<A: RepoAccess<View = V> + Drop, V: SoundTrees>(
         Play::Looks => are_seen(rt, alloc, seats),
         Play::Properties => is_changed_by_one(rt, alloc, seats),
         Play::Halts(wanted) => told_both(rt, alloc, seats) == wanted,
+        Play::IsReleased => is_released_for_both(rt, alloc, seats),
         Play::Releases(wanted) => told_of_release(rt, alloc, seats) == wanted,
     }
 }

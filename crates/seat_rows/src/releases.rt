@@ -1,4 +1,5 @@
-//! What the seats are told where the locks that a commit hands in cannot be released.
+//! What is told of the locks that a commit hands in: where there is memory they are released, and where the store fails
+//! they cannot be.
 
 use crate::commits::{ask_for, commit, commit_of, youngest};
 use crate::files::{bytes, files_with_a, lock_ask, path_a};
@@ -11,7 +12,8 @@ use repo_api::{ChangeFault, CommitAsk, Repository};
 use std::alloc::Global;
 use std::marker::Brand;
 use std::process::Abort;
-use store_files::{FuseStore, Left, MemoryStore};
+use store_access::StoredRepository;
+use store_files::{FuseStore, Left, MemoryStore, Store};
 
 /// The token of the lock.
 const TOKEN: &[u8] = b"opaquelocktoken:00000000-0000-4000-8000-000000000001";
@@ -60,6 +62,41 @@ fn has_lock<A: RepoAccess>(rt: &impl Abort, alloc: Global, access: &mut A) -> bo
     view.lock_at(&path_a(rt, alloc)).is_some()
 }
 
+/// Says whether a commit releases the lock that it hands in: it answers that it has, and the next look has no lock. A
+/// release that always lacks memory fails this, since memory is ample.
+fn is_released<A: RepoAccess<View = V>, V: SoundTrees>(
+    rt: &impl Abort,
+    alloc: Global,
+    access: &mut A,
+) -> bool {
+    let locked = access.lock(lock_ask(rt, alloc, USER, TOKEN));
+    locked.expect(rt, "a lock");
+    let was_locked = has_lock(rt, alloc, access);
+    let committed = commit_of(rt, alloc, access, handing_in(rt, alloc)).expect(rt, "a commit");
+    let is_settled = matches!(committed.released, Released::Settled);
+    was_locked && is_settled && !has_lock(rt, alloc, access)
+}
+
+/// Says whether the commit of one seat releases the lock that it hands in, also as the other seat sees it.
+pub(crate) fn is_released_for_both<A: RepoAccess<View = V> + Drop, V: SoundTrees>(
+    rt: &impl Abort,
+    alloc: Global,
+    seats: (A, A),
+) -> bool {
+    let (mut one, mut other) = seats;
+    is_released(rt, alloc, &mut one) && !has_lock(rt, alloc, &mut other)
+}
+
+/// Says whether a commit to a repository in files, which one alone has, releases the lock that it hands in.
+fn is_released_in_files<F: SoundTrees, S: Store>(
+    rt: &impl Abort,
+    alloc: Global,
+    stored: StoredRepository<F, S>,
+) -> bool {
+    let mut stored = stored;
+    is_released(rt, alloc, &mut stored)
+}
+
 /// Says what two seats are told of whom one hands its lock in.
 pub(crate) fn told_of_release<A: RepoAccess<View = V> + Drop, V: SoundTrees>(
     rt: &impl Abort,
@@ -100,6 +137,25 @@ const RELEASED: ReleaseTold = (
 
 /// How many writes pass before one fails, and what they are told then.
 static ROWS: [(u64, ReleaseTold); 3] = [(0, NOT_LOCKED), (4, NOT_RELEASED), (5, RELEASED)];
+
+#[test]
+fn with_ample_memory_a_seat_releases_the_lock_that_it_hands_in(rt: HostRuntime) {
+    let is_released = is_played_over::<FiledWorld, MemoryStore, Brand, HostRuntime>(
+        &rt,
+        rt.alloc(),
+        opened(&rt, rt.alloc(), files_with_a(&rt, rt.alloc())),
+        NewHistory::new(),
+        Play::IsReleased,
+    );
+    assert!(rt; is_released);
+}
+
+#[test]
+fn with_ample_memory_a_repository_in_files_releases_the_lock_that_is_handed_in(rt: HostRuntime) {
+    let stored = opened(&rt, rt.alloc(), files_with_a(&rt, rt.alloc()));
+    let is_released = is_released_in_files(&rt, rt.alloc(), stored);
+    assert!(rt; is_released);
+}
 
 #[test]
 fn a_commit_whose_locks_are_not_released_is_made(rt: HostRuntime) {

@@ -97,6 +97,12 @@ module _ {F S T : Type 0} {f : Filed.Ghosts F T} {r : Repository.Ghosts F T} {s 
       × ((c : RepoState) → HasRepository r.content f.is_of c (s.holds store)
       → r.content opened.repository ≡ c)
 
+  -- it begins so over the store: changes are made, none is pending, and the failures that are counted
+  -- are those of the store before, so none where the store has not failed
+  abbrev pub BeginsOver : S → StoredRepository F S T f r s → Type 0
+  BeginsOver store opened =
+      point_of opened ≡ stored_at (r.content opened.repository) false (s.failed store) None
+
   -- what a call leaves that asks for these changes
   abbrev pub StopLeaves : List Accepted → StoredRepository F S T f r s → StoredRepository F S T f r s → Type 0
   StopLeaves asked old new =

@@ -2,7 +2,7 @@
 ghost use Rattle.std.specs.Prelude.{◌≡◌, Some, IfOk, IfErr, length};
 ghost use Rattle.store_files.specs.Folders.{Folder, IsSame};
 ghost use Rattle.repostore.specs.{Current.count_in, Files.Files, Opening.IsUnopened};
-ghost use Rattle.store_access.specs.Stored.{IsOpened};
+ghost use Rattle.store_access.specs.Stored.{BeginsOver, IsOpened};
 
 use crate::filed::Filed;
 use crate::stored::StoredRepository;
@@ -30,6 +30,8 @@ pub fn open_repository<S: Store, L: Loader>(
     requires { S.is_honest store → (f : Folder) → S.may_leave store f → IsSame (S.holds store) f }
     // Where the folder has the files of a repository, it is this one.
     ensures found { IfOk result (IsOpened store) }
+    // What is opened is not halted, has no pending change, and counts no failure of its own.
+    ensures begins { IfOk result (BeginsOver store) }
     ensures unopened { IfErr result (λ unopened. IsUnopened S.Store L.faulty store unopened) }
 {
     let (saves, loader) = open::<S, L>(alloc, store)?;

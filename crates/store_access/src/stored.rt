@@ -1,5 +1,5 @@
 //! A repository in files that one hub alone has.
-ghost use Rattle.std.specs.Prelude.{◌≡◌, false};
+ghost use Rattle.std.specs.Prelude.{◌≡◌, false, None};
 ghost use Rattle.repostore.specs.Saving.{Stands};
 ghost use Rattle.store_access.specs.{Keeping.{HaltKeeps, HasRepository, Keeps}, Pending.pending_in};
 
@@ -37,6 +37,7 @@ impl<F: Filed, S: Store> StoredRepository<F, S> {
         requires goes_on { saves.is_halted ≡ false }
         ensures repository { result.repository ≡ repository }
         ensures saves { result.saves ≡ saves }
+        ensures pending { result.pending ≡ None }
     {
         StoredRepository {
             repository,
