@@ -2,7 +2,7 @@
 ghost use Rattle.std.specs.Prelude.{IfOk, IfErr};
 ghost use Rattle.store_files.specs.Folders.{Folder, IsSame};
 ghost use Rattle.repostore.specs.Opening.{IsUnopened};
-ghost use Rattle.store_access.specs.Stored.{IsOpened};
+ghost use Rattle.store_access.specs.Stored.{BeginsOver, IsOpened};
 ghost use Rattle.filed_opening.specs.Faults.{IsHindered, folder_faults};
 
 use crate::reader::FolderReader;
@@ -21,6 +21,8 @@ pub fn open<S: Store>(alloc: Global, store: S) -> Result<FolderRepository<S>, Un
     requires { S.is_honest store → (f : Folder) → S.may_leave store f → IsSame (S.holds store) f }
     // Where the folder has the files of a repository, it finds this one, unless the device or memory fails.
     ensures found { IfOk result (IsOpened store) }
+    // What is opened is not halted, has no pending change, and counts no failure of its own.
+    ensures begins { IfOk result (BeginsOver store) }
     ensures failed { IfErr result (IsHindered S.Store store) }
     ensures unopened { IfErr result (λ unopened. IsUnopened S.Store folder_faults store unopened) }
 {

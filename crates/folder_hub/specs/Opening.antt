@@ -1,10 +1,11 @@
--- What is found in a folder, and what a hub's files are once changes have come to a halt.
-use Rattle.std.specs.Prelude.{◌≡◌, true, Some}
+-- What is found in a folder, how a hub begins over it, and what its files are once changes have come to a halt.
+use Rattle.std.specs.Prelude.{◌≡◌, ℕ, [], true, false, None, Some}
 use Rattle.repo_api.specs.{Accepted.{Accepted, changed}, States.RepoState}
 use Rattle.store_files.specs.{Folders.Folder, declared.store.Store.Ghosts}
 use Rattle.repostore.specs.Saving.{Stands}
-use Rattle.hub_runs.specs.State.{HubState}
-use Rattle.store_access.specs.Keeping.{HasEitherRepository, HasRepository, StandsFor}
+use Rattle.hub_runs.specs.State.{HubState, hub_at}
+use Rattle.machine.specs.Settings.{Settings}
+use Rattle.store_access.specs.{Keeping.{HasEitherRepository, HasRepository, StandsFor}, Stored.stored_at}
 use Rattle.filed_trees.specs.StandsFor as files
 use Rattle.filed_world.specs.Files.{IsOf, filed_content}
 
@@ -13,6 +14,11 @@ use Rattle.filed_world.specs.Files.{IsOf, filed_content}
 pub record IsFoundIn (was : Folder) (content : RepoState) : Type 0 where
   pub stands : StandsFor files.StandsFor content was
   pub same : (c : RepoState) → HasRepository filed_content IsOf c was → content ≡ c
+
+-- a hub that begins: it contains this, and has no sessions; changes are made, none is pending, and so
+-- many failures of the store are counted
+abbrev pub opened_hub : Settings → RepoState → ℕ → HubState
+opened_hub settings content failures = hub_at settings (stored_at content false failures None) [] 0
 
 module _ {S : Type 0} (s : Ghosts S) (store : S) (hub : HubState) where
   -- changes came to a halt while this one was being saved: what is read has the files of what the

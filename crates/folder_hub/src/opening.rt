@@ -2,9 +2,9 @@
 ghost use Rattle.std.specs.Prelude.{◌≡◌, [], false};
 ghost use Rattle.repostore.specs.Saving.{Stands};
 ghost use Rattle.hub_runs.specs.State.{hub_at};
-ghost use Rattle.store_access.specs.{Keeping.HasRepository, Stored.point_of};
+ghost use Rattle.store_access.specs.{Keeping.HasRepository, Stored.{BeginsOver, point_of}};
 ghost use Rattle.filed_world.specs.Files.{IsOf, filed_content};
-ghost use Rattle.folder_hub.specs.Opening.{HaltLeaves};
+ghost use Rattle.folder_hub.specs.Opening.{HaltLeaves, opened_hub};
 
 use filed_opening::{FolderRepository, opened_trees_are_sound};
 use hub::{Hub, Options};
@@ -20,7 +20,11 @@ pub fn hub_over<S: Store>(
     repository: FolderRepository<S>,
     options: Options,
 ) -> FolderHub<S>
-    ensures { result ≡ hub_at options (point_of repository) [] 0 }
+    ensures state { result ≡ hub_at options (point_of repository) [] 0 }
+    // Over what was just opened of a store, it is not halted, has no pending change, and counts the failures that the
+    // store had before: none where it has not failed.
+    ensures begins { (store : S) → BeginsOver store repository
+        → result ≡ opened_hub options (filed_content repository.repository) (S.failed store) }
 {
     opened_trees_are_sound(repository.repository());
     Hub::with_access(alloc, repository, options)
