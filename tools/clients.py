@@ -334,6 +334,33 @@ class Server:
         return None
 
 
+class OtherServer(Server):
+    """Debian's svnserve, with a thread for each client, at a new repository of its own. It has no journal."""
+
+    def __init__(self, room):
+        self.folder, self.port, self.journal = room / NAME, free_port(), room / "errors"
+        subprocess.run(["svnadmin", "create", self.folder], check=True)
+        words = b"[users]\n" + b"".join(b"%s = %s\n" % (name.encode(), word) for name, word in USERS.items())
+        (self.folder / "conf/passwd").write_bytes(words)
+        settings = "[general]\nanon-access = write\nauth-access = write\npassword-db = passwd\nrealm = r\n"
+        (self.folder / "conf/svnserve.conf").write_text(settings)
+        words = ["svnserve", "-d", "-T", "--foreground", "--listen-host", "127.0.0.1", "--listen-port", str(self.port), "-r", room]
+        with self.journal.open("ab") as errors:
+            self.process = subprocess.Popen(words, stdin=subprocess.DEVNULL, stdout=subprocess.PIPE, stderr=errors)
+        self.pid = self.process.pid
+        for _ in range(200):
+            try:
+                return connect(self.port).close()
+            except OSError:
+                time.sleep(0.05)
+        sys.exit("svnserve does not listen")
+
+    def verify(self):
+        """What is wrong with the folder, by Subversion's own program, if anything is."""
+        verified = subprocess.run(["svnadmin", "verify", "-q", self.folder], stdin=subprocess.DEVNULL, capture_output=True, text=True)
+        return f"svnadmin verify: {verified.stderr}" if verified.returncode != 0 else None
+
+
 def watch(port, pause, limit, stop, told):
     """Asks for the youngest revision, again and again, and tells how often, the longest wait, and what went wrong."""
     signal.signal(signal.SIGINT, signal.SIG_IGN)
