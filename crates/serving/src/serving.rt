@@ -12,6 +12,7 @@ use crate::reason::Reason;
 use crate::settings::{Server, Settings};
 use crossbeam_channel::{Receiver, Sender, unbounded};
 use entrance::{Client, Entrance, Event, Registry, take_all, too_few_files};
+use filed_world::FiledWorld;
 use journals::{Journal, Room, write_lines};
 use published::Naming;
 use session_pool::SessionPool;
@@ -27,7 +28,8 @@ use std::time::Clock;
 use store_access::Filed;
 use store_files::Store;
 
-/// Takes connections at an entrance of a repository in files.
+/// Takes connections at an entrance of a repository in files: for any repository, since at a named one the checker
+/// reaches its limit of steps.
 fn take_at<'e, R, F, S, J>(
     entrance: &'e Entrance<'e, R, SharedFiles<F, S, J>>,
     pool: &SessionPool<'_, Registry<'_, R>, Registry<'_, R>>,
@@ -52,16 +54,15 @@ struct Way<'a, 'e, R, O> {
 
 /// Starts a thread for each desk, tells that all have started, and takes connections. It answers once no more are to be taken
 /// and all sessions have ended, or where a thread cannot be started.
-fn run_pool<'e, R, F, S, J, O>(
+fn run_pool<'e, R, S, J, O>(
     server: &Server<'_, R>,
-    entrance: &'e Entrance<'e, R, SharedFiles<F, S, J>>,
+    entrance: &'e Entrance<'e, R, SharedFiles<FiledWorld, S, J>>,
     pool: &SessionPool<'_, Registry<'_, R>, Registry<'_, R>>,
     way: Way<'_, 'e, R, O>,
-    desks: Vec<Desk<'_, R, F, S, J>>,
+    desks: Vec<Desk<'_, R, FiledWorld, S, J>>,
 ) -> Result<(), ServingFault>
 where
     R: Clock + Eprint + RandomSource + Threads + Wait + Sync,
-    F: Filed + Send + Sync + 'static,
     S: Store + Send + Sync + 'static,
     J: Naming + Send + Sync + 'static,
     O: Opening,
@@ -99,15 +100,14 @@ where
 }
 
 /// Serves the connections that come in by an entrance, each at one of these desks.
-fn serve_desks<'e, R, F, S, J, O>(
+fn serve_desks<'e, R, S, J, O>(
     server: &Server<'_, R>,
-    entrance: &'e Entrance<'e, R, SharedFiles<F, S, J>>,
+    entrance: &'e Entrance<'e, R, SharedFiles<FiledWorld, S, J>>,
     opening: &O,
-    desks: Vec<Desk<'_, R, F, S, J>>,
+    desks: Vec<Desk<'_, R, FiledWorld, S, J>>,
 ) -> Result<(), ServingFault>
 where
     R: Clock + Eprint + RandomSource + Threads + Wait + Sync,
-    F: Filed + Send + Sync + 'static,
     S: Store + Send + Sync + 'static,
     J: Naming + Send + Sync + 'static,
     O: Opening,
@@ -134,15 +134,14 @@ struct Arrivals<'a, O> {
 
 /// Serves so many connections at the desks of a repository, one after another, each in the thread of a desk. It
 /// answers once all have ended, or where a thread fails.
-pub fn serve_connections<R, F, S, J>(
+pub fn serve_connections<R, S, J>(
     server: &Server<'_, R>,
     listener: &TcpListener,
     connections: usize,
-    desks: Desks<'_, R, F, S, J>,
+    desks: Desks<'_, R, FiledWorld, S, J>,
 ) -> Result<(), ServingFault>
 where
     R: Clock + Eprint + RandomSource + Threads + Wait + Sync,
-    F: Filed + Send + Sync + 'static,
     S: Store + Send + Sync + 'static,
     J: Naming + Send + Sync + 'static,
     requires { All (λ d. AreSound (content_of (point_of d.seat)).revisions) desks.1.items }
@@ -166,15 +165,14 @@ fn tell_of_users<R: Clock + Eprint>(settings: &Settings, registry: &Registry<'_,
 }
 
 /// Serves the connections that arrive, and tells of them in a journal.
-fn serve_told<R, F, S, J, O>(
+fn serve_told<R, S, J, O>(
     server: &Server<'_, R>,
     arrivals: Arrivals<'_, O>,
     journal: Journal<'_, R>,
-    desks: Desks<'_, R, F, S, J>,
+    desks: Desks<'_, R, FiledWorld, S, J>,
 ) -> Result<(), ServingFault>
 where
     R: Clock + Eprint + RandomSource + Threads + Wait + Sync,
-    F: Filed + Send + Sync + 'static,
     S: Store + Send + Sync + 'static,
     J: Naming + Send + Sync + 'static,
     O: Opening,
@@ -201,14 +199,13 @@ where
 }
 
 /// Serves the connections that arrive, while a thread writes what is told of them. That ends once all is written.
-fn serve_arrivals<R, F, S, J, O>(
+fn serve_arrivals<R, S, J, O>(
     server: &Server<'_, R>,
     arrivals: Arrivals<'_, O>,
-    desks: Desks<'_, R, F, S, J>,
+    desks: Desks<'_, R, FiledWorld, S, J>,
 ) -> Result<(), ServingFault>
 where
     R: Clock + Eprint + RandomSource + Threads + Wait + Sync,
-    F: Filed + Send + Sync + 'static,
     S: Store + Send + Sync + 'static,
     J: Naming + Send + Sync + 'static,
     O: Opening,
@@ -247,9 +244,9 @@ where
 
 /// Serves sessions over TCP at the desks of a repository. It prints `ready` once it listens and all threads have
 /// started, and answers only where that or a thread fails.
-pub fn serve<R, F, S, J>(
+pub fn serve<R, S, J>(
     server: &Server<'_, R>,
-    desks: Desks<'_, R, F, S, J>,
+    desks: Desks<'_, R, FiledWorld, S, J>,
 ) -> Result<(), ServingFault>
 where
     R: Net<Listener = TcpListener, Stream = TcpStream>
@@ -261,7 +258,6 @@ where
         + Threads
         + Wait
         + Sync,
-    F: Filed + Send + Sync + 'static,
     S: Store + Send + Sync + 'static,
     J: Naming + Send + Sync + 'static,
     requires { All (λ d. AreSound (content_of (point_of d.seat)).revisions) desks.1.items }
