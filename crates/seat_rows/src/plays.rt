@@ -13,6 +13,7 @@ use crate::sixteen::{has_all, works};
 use access::RepoAccess;
 use published::{Naming, NewHistory};
 use std::alloc::Global;
+use std::mem::drop;
 use std::process::Abort;
 use std::sync::Wait;
 use std::sync::atomic::AtomicBool;
@@ -142,5 +143,7 @@ pub(crate) fn act_in<F: SoundTrees, S: Store, J: Naming, R: Abort + Wait>(
     marks: &Marks,
 ) -> Option<u64> {
     let mut seat = place.into_access();
-    act_at(rt, alloc, &mut seat, done, marks)
+    let told = act_at(rt, alloc, &mut seat, done, marks);
+    drop(seat);
+    told
 }
