@@ -1,5 +1,6 @@
 //! A client's connection: what is read of it, and what is written to it.
 
+use crate::clock::millis_now;
 use crate::registry::Registry;
 use presence::{Connection, has_gone};
 use session_pool::Caller;
@@ -48,6 +49,7 @@ pub(crate) fn caller_of<'a, R>(
         stream,
         registry,
         session: number,
+        asked: 0,
     };
     Ok(Caller {
         number,
@@ -70,6 +72,8 @@ pub struct ClientInput<'a, R> {
     stream: Arc<TcpStream>,
     registry: &'a Registry<'a, R>,
     session: u64,
+    /// When it was last asked whether the session is to end, in milliseconds.
+    asked: u64,
 }
 
 impl<'a, R> Drop for ClientInput<'a, R> {
@@ -78,6 +82,7 @@ impl<'a, R> Drop for ClientInput<'a, R> {
             stream: _,
             registry: _,
             session: _,
+            asked: _,
         } = self;
     }
 }
@@ -98,6 +103,16 @@ impl<'a, R: Clock + Wait> ClientInput<'a, R> {
         }
         true
     }
+
+    /// Says whether the session is to end. That is asked once in a turn of reading, since all sessions ask at one place.
+    fn is_to_end(&mut self) -> bool {
+        let now = millis_now(self.registry.runtime());
+        if now < self.asked.saturating_add(READ_TURN) {
+            return false;
+        }
+        self.asked = now;
+        self.registry.is_to_end(self.session)
+    }
 }
 
 impl<'a, R: Clock + Wait> Read for ClientInput<'a, R> {
@@ -105,11 +120,11 @@ impl<'a, R: Clock + Wait> Read for ClientInput<'a, R> {
         if !self.rest() {
             return Ok(0);
         }
-        let mut stream = self.stream.as_ref();
         for _ in 0..u64::MAX {
-            if self.registry.is_to_end(self.session) {
+            if self.is_to_end() {
                 return Ok(0);
             }
+            let mut stream = self.stream.as_ref();
             let done = stream.read(buf);
             if !is_of_time(&done) {
                 return done;

@@ -7,6 +7,7 @@ mod clients;
 mod clock;
 mod events;
 mod limits;
+mod notes;
 mod refusing;
 mod registry;
 

@@ -2,13 +2,14 @@
 
 use crate::clock::millis_now;
 use crate::events::Event;
-use guests::{Awaited, Guests};
+use crate::notes::Notes;
+use guests::{Awaited, Ending, Guests};
 use journals::Journal;
 use session_pool::{Gate, MAX_SESSIONS, TalkFault, Watch};
 use std::alloc::{AllocError, Global};
 use std::io::Eprint;
 use std::net::{IpAddr, SocketAddr};
-use std::sync::atomic::{AtomicBool, Ordering};
+use std::sync::atomic::{AtomicBool, AtomicU64, Ordering};
 use std::sync::{Mutex, Wait};
 use std::time::Clock;
 
@@ -22,6 +23,10 @@ pub struct Registry<'a, R> {
     alloc: Global,
     journal: Journal<'a, R>,
     told_of_halt: AtomicBool,
+    /// Until when some session reads nothing, at the latest.
+    rests_until: AtomicU64,
+    /// What sessions have noted since the guests were asked last.
+    notes: Notes,
     guests: Mutex<Guests>,
 }
 
@@ -32,6 +37,8 @@ impl<'a, R> Drop for Registry<'a, R> {
             alloc: _,
             journal: _,
             told_of_halt: _,
+            rests_until: _,
+            notes: _,
             guests: _,
         } = self;
     }
@@ -53,6 +60,8 @@ impl<'a, R> Registry<'a, R> {
             alloc,
             journal,
             told_of_halt: AtomicBool::new(false),
+            rests_until: AtomicU64::new(0),
+            notes: Notes::new(alloc),
             guests: Mutex::new(Guests::new(alloc)),
         }
     }
@@ -92,12 +101,14 @@ impl<'a, R: Clock + Wait> Registry<'a, R> {
     pub(crate) fn begins(&self, session: u64, peer: SocketAddr) -> Result<(), AllocError> {
         let (address, now) = (number_of(peer.ip()), millis_now(self.rt));
         self.guests.lock(self.rt).come(session, address, now)?;
+        self.notes.begin(session);
         self.tell(Event::Begins(session, peer));
         Ok(())
     }
 
     /// Notes that a session has ended, and tells it.
     pub(crate) fn ends(&self, session: u64) {
+        self.notes.end(session);
         self.guests.lock(self.rt).go(session);
         self.tell(Event::Ends(session));
     }
@@ -110,17 +121,23 @@ impl<'a, R: Clock + Wait> Registry<'a, R> {
     /// Says for how many milliseconds a session still reads nothing.
     pub(crate) fn rest_of(&self, session: u64) -> u64 {
         let now = millis_now(self.rt);
+        if self.rests_until.load(Ordering::SeqCst) <= now {
+            return 0;
+        }
         self.guests.lock(self.rt).rest_of(session, now)
+    }
+
+    /// Says why a session is to end now, if it is, by what all have noted.
+    fn ending_of(&self, session: u64, now: u64) -> Option<Ending> {
+        let mut guests = self.guests.lock(self.rt);
+        self.notes.tell(&mut guests);
+        guests.ending_of(session, MAX_SESSIONS as usize, now)
     }
 
     /// Says whether a session is to end because its client sends nothing, and tells why.
     pub(crate) fn is_to_end(&self, session: u64) -> bool {
         let now = millis_now(self.rt);
-        let ending = self
-            .guests
-            .lock(self.rt)
-            .ending_of(session, MAX_SESSIONS as usize, now);
-        match ending {
+        match self.ending_of(session, now) {
             Some(ending) => {
                 self.tell(Event::Ended(session, ending));
                 true
@@ -133,11 +150,15 @@ impl<'a, R: Clock + Wait> Registry<'a, R> {
 impl<'a, R: Clock + Wait> Gate for Registry<'a, R> {
     fn awaits(&self, session: u64, awaited: Awaited) {
         let now = millis_now(self.rt);
-        self.guests.lock(self.rt).awaits(session, awaited, now);
+        if !self.notes.awaits(session, awaited, now) {
+            self.guests.lock(self.rt).awaits(session, awaited, now);
+        }
     }
 
     fn pass(&self, session: u64, _piece: u64) {
-        self.guests.lock(self.rt).hears(session);
+        if !self.notes.hears(session) {
+            self.guests.lock(self.rt).hears(session);
+        }
     }
 }
 
@@ -157,6 +178,7 @@ impl<'a, R: Clock + Wait> Watch for Registry<'a, R> {
         }
         let until = millis_now(self.rt).saturating_add(REFUSED_REST);
         self.guests.lock(self.rt).rest(session, until);
+        self.rests_until.fetch_max(until, Ordering::SeqCst);
     }
 
     fn given_up(&self, session: u64, fault: &TalkFault) {
