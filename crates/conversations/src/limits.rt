@@ -17,9 +17,9 @@ pub const STRING: usize = 16_777_216;
 /// How many items there may be in one without a long list.
 pub const FEW: usize = 1_024;
 
-/// How many items there may be in a command of a client without a user. Each of 262,144 revisions fits, and so do
-/// 65,536 paths with a token or a revision each.
-pub const MANY: usize = 263_168;
+/// How many items there may be in a command of a client without a user. 65,536 paths with a token or a revision each
+/// fit: three items for each.
+pub const MANY: usize = 262_144;
 
 /// How many items there may be in a command of a client that has logged in as a user.
 pub const MOST: usize = 1_048_576;
