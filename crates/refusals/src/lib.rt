@@ -13,6 +13,8 @@ pub use refusing::path_refusal;
 /// Why a command is refused.
 #[derive(Clone, Copy, Debug, PartialEq, Eq)]
 pub enum Refusal {
+    /// The value is no date that clients can read.
+    NotADate,
     /// The files could not be written.
     StoreFailed,
     /// The path or URL is none.
@@ -71,6 +73,7 @@ impl Refusal {
         ensures { result ≡ refusal_number self }
     {
         match self {
+            Refusal::NotADate => 125005,
             Refusal::StoreFailed => 160000,
             Refusal::BadPath => 160005,
             Refusal::NoSuchRevision => 160006,
@@ -104,6 +107,7 @@ impl Refusal {
         ensures { result.now ≡ refusal_text self }
     {
         match self {
+            Refusal::NotADate => b"not a date",
             Refusal::StoreFailed => b"store failed",
             Refusal::BadPath => b"bad path",
             Refusal::NoSuchRevision => b"no such revision",
