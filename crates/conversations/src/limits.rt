@@ -19,10 +19,10 @@ pub const FEW: usize = 1_024;
 
 /// How many items there may be in a command of a client without a user. 65,536 paths with a token or a revision each
 /// fit: three items for each.
-pub const MANY: usize = 262_144;
+pub const MANY: usize = 200_000;
 
 /// How many items there may be in a command of a client that has logged in as a user.
-pub const MOST: usize = 1_048_576;
+pub const MOST: usize = 800_000;
 
 /// Gives how many bytes an item may have that is not whole yet. A command may have two long strings, since clients
 /// send the message of a commit twice, before they are asked to log in.

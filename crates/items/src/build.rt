@@ -8,10 +8,6 @@ use crate::scan::{MAX_DEPTH, is_space, is_word_byte};
 use byte_string::ByteString;
 use std::alloc::{AllocError, Global};
 
-/// How many items a list has at most that gives back the room beyond them. A longer one would take as much again
-/// meanwhile.
-const SHORT: usize = 1_024;
-
 /// Makes the item that the bytes spell.
 pub fn build(alloc: Global, bytes: &[u8]) -> Result<Item, AllocError>
     requires { (t : ItemValue) × IsItem limits t bytes.now }
@@ -60,9 +56,9 @@ fn read_row(alloc: Global, bytes: &[u8], depth: u64) -> Result<(Vec<Item>, &[u8]
             return Ok((items, rest));
         }
         if rest[0] == b')' {
-            give_room_back(&mut items);
             return Ok((items, behind_space(&rest[1..])));
         }
+        make_first_room(&mut items)?;
         let (item, behind) = read_item(alloc, rest, depth - 1)?;
         items.push(item).map_err(AllocError::from)?;
         rest = behind;
@@ -70,13 +66,14 @@ fn read_row(alloc: Global, bytes: &[u8], depth: u64) -> Result<(Vec<Item>, &[u8]
     Ok((items, &bytes[..0]))
 }
 
-// The room that a short list has beyond its items.
-fn give_room_back(items: &mut Vec<Item>)
+// Makes room for the first item of a list, and for no more, as a list of one takes a third of the memory then.
+fn make_first_room(items: &mut Vec<Item>) -> Result<(), AllocError>
     ensures { items.new.items ≡ items.old.items }
 {
-    if items.len() <= SHORT {
-        items.shrink_to_fit();
+    if items.is_empty() {
+        items.reserve_exact(1)?;
     }
+    Ok(())
 }
 
 // A number, or a string of so many bytes.

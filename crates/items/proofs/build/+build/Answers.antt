@@ -59,7 +59,7 @@ read_row-returns-then-rest-eq41 t c =
     let turn : n ≡ suc (n - 1) = omega arith in
     let some : 0 < length skipped = grind (arith, nat_tests) in
     let closes : (get_or skipped 0 0 == 41) ≡ true = grind (arith, nat_tests) in
-    ap₂ (λ x y. (values_of x, y)) c.give_room_back.ensures (c.behind_space.ensures ∙ ap (λ x. drop 1 x) (all_dropped 1 skipped))
+    ap (λ x. (values_of c.loop-turn.items.items, x)) (c.behind_space.ensures ∙ ap (λ x. drop 1 x) (all_dropped 1 skipped))
     ∙ row_closes (read (c.args.depth - 1)) n (n - 1) c.loop-turn.items.items c.loop-turn.rest.now skipped _ turn c.loop-turn.invariant c.skip_spaces-rest.ensures some closes
     ∙ row_reads c.args.depth c.args.bytes.now c.if-depth-eq0.false
 
