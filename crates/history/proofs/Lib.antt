@@ -9,5 +9,6 @@ pub mod Logging
 pub mod Orders
 pub mod OnTraces
 pub mod Passing
-pub mod Lines
+pub mod Along
 pub mod Naming
+pub mod Ends

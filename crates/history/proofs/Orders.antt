@@ -15,7 +15,7 @@ no_pairs : {X : Type 0} (R : X → X → Type 0) → AllPairs R []
 no_pairs R i j d before within = absurd (omega arith)
 
 -- the places of a trace below a revision are below it, and fall
-below : (h : History) (strict : Bool) (k : ℕ) (o : Option Place) → All (λ p. p.revision < k) (trace_below h strict k o)
+pub below : (h : History) (strict : Bool) (k : ℕ) (o : Option Place) → All (λ p. p.revision < k) (trace_below h strict k o)
 below h strict zero o = All-nil (λ p. p.revision < zero)
 below h strict (suc k) None = All-nil (λ p. p.revision < suc k)
 below h strict (suc k) (Some p) = by (λ o. All-weaker (λ q. q.revision < k) (λ q. q.revision < suc k) (λ q lower. omega (arith, lower)) (trace_below h strict k o) (below h strict k o)) (p.revision == k) refl

@@ -7,9 +7,8 @@ use borrow.Author.Tests.{eqb-true, eqb-false}
 use Rattle.svnpath.specs.Paths.{Component, is_at_or_under, PathValue}
 use Rattle.repo_api.specs.Histories.{Changed, History, IsQuiet, IsQuietSince}
 use Rattle.traces.specs.Traces.{makes, decides, deciding_change, earlier, place_by, is_from, is_copy_by, next_place, trace, trace_below}
-use Rattle.history.specs.{Logs.{listed, place_at}, Locations.{path_in}, Gathered.GoesOn}
-use Rattle.traces.specs.declared.place.Place.{Place}
-use Rattle.traces.specs.Touching.{is_touched, touches}
+use Rattle.traces.specs.{declared.place.Place.Place, Touching.{is_touched, touches}}
+use Rattle.history.specs.{Logs.{listed, place_at}, Locations.path_in, Gathered.GoesOn}
 use Rattle.history.proofs.Steps.{trace_is, listed_by, not_equal, path_past}
 
 reversed : {X : Type 0} (P : X → Type 0) (xs : List X) → All P xs → All P (reverse xs)
@@ -23,7 +22,7 @@ none_found test [] all = refl
 none_found test (x ∷ xs) all =
     ap (λ b. if b then Some x else find test xs) (All-head (λ x. test x ≡ false) x xs all) ∙ none_found test xs (All-tail (λ x. test x ≡ false) x xs all)
 
-never : (b : Bool) → (b ≡ true → ⊥) → b ≡ false
+pub never : (b : Bool) → (b ≡ true → ⊥) → b ≡ false
 never true not_so = absurd (not_so refl)
 never false not_so = refl
 
@@ -70,7 +69,7 @@ place_earlier strict changes p n quiet =
     fewer : suc n - 1 ≡ n
     fewer = omega arith
 
-trace_earlier : (h : History) (strict : Bool) (p : PathValue) (n : ℕ) → IsQuiet (h (suc n)) p
+pub trace_earlier : (h : History) (strict : Bool) (p : PathValue) (n : ℕ) → IsQuiet (h (suc n)) p
     → trace h strict (place_at (suc n) p) ≡ place_at (suc n) p ∷ trace h strict (place_at n p)
 trace_earlier h strict p n quiet =
     trace_is h strict (place_at (suc n) p) ∙ ap (λ o. place_at (suc n) p ∷ trace_below h strict (suc n) o) (place_earlier strict (h (suc n)) p n quiet)

@@ -4,6 +4,7 @@ ghost use Rattle.repo_api.specs.Histories.{History, history_of};
 ghost use Rattle.svnpath.specs.Paths.{PathValue};
 ghost use Rattle.history.specs.{Gathered.{AreKnown, GoesOn, IsLine, IsNoted, path_from, path_known}, Locations.{location_back, location_on}};
 
+use crate::lines::is_same_place;
 use crate::locating::{location_back, only_same, place_down};
 use repo_api::Repository;
 use std::alloc::{AllocError, Global};
@@ -105,14 +106,6 @@ fn paths_back<R: Repository>(
     Ok(found)
 }
 
-/// Says whether two places are one.
-fn is_one(place: &Place, other: &Place) -> bool
-    ensures { result ≡ true → (place.now.revision ≡ other.now.revision)
-        × (place.now.path ≡ other.now.path) }
-{
-    place.revision == other.revision && place.path == other.path
-}
-
 /// Notes the path that was found in a revision.
 fn note(
     found: &mut BTreeMap<u64, Option<Path>>,
@@ -131,7 +124,7 @@ fn is_there(at: &Option<Place>, place: &Place) -> bool
 {
     match at {
         None => false,
-        Some(at) => is_one(at, place),
+        Some(at) => is_same_place(at, place),
     }
 }
 

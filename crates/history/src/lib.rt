@@ -1,4 +1,4 @@
-//! The history of places, read off the lists of changes: traces, logs, and where a place was or went.
+//! The history of places, read off the lists of changes: logs, where a place was or went, and lines of history.
 #![tactic(auto)]
 
 mod coming;
@@ -6,6 +6,7 @@ mod dates;
 mod gathering;
 mod kinds;
 mod laws;
+mod lines;
 mod listed;
 mod locating;
 mod log;
@@ -18,6 +19,7 @@ pub use kinds::kind_shown;
 pub use laws::{
     dated_revisions_are_greatest, locations_are_on_traces, logs_are_right, traces_fall,
 };
+pub use lines::is_one_line;
 pub use listed::Listed;
 pub use locating::{each_once, location, locations};
 pub use log::Log;

@@ -2,7 +2,7 @@
 ghost use Rattle.std.specs.Prelude.{◌≡◌, ◌≤◌, ◌∷◌, ℕ, Bool, IfOk};
 ghost use Rattle.repo_api.specs.Histories.{History, history_of};
 ghost use Rattle.traces.specs.Traces.{trace_below, trace, traced, IsBelow};
-ghost use Rattle.history.specs.Logs.{IsNext, listed};
+ghost use Rattle.history.specs.{Lines.line_start, Logs.{IsNext, listed}};
 
 use crate::listed::Listed;
 use repo_api::Repository;
@@ -42,11 +42,14 @@ pub fn step_back<R: Repository>(
     Ok(only_below(next, at.revision))
 }
 
-/// Gives the place in the revision that it has settled in: from there to the place nothing is listed.
-fn settled_place<R: Repository>(repository: &R, at: Place) -> Place
+/// Gives the place in the revision that it has settled in: from there to the place nothing is listed, and its line is the
+/// same.
+pub(crate) fn settled_place<R: Repository>(repository: &R, at: Place) -> Place
     ensures within { result.revision ≤ at.revision }
     ensures listed { let h = history_of (R.content repository.now) in (strict : Bool) (low : ℕ)
         → listed h low (trace h strict at) ≡ listed h low (trace h strict result) }
+    ensures line { let h = history_of (R.content repository.now) in
+        line_start h at ≡ line_start h result }
 {
     if at.path.is_root() {
         return at;

@@ -1,6 +1,6 @@
 use Rattle.std.proofs.Common.{arith, Some, None}
 use Rattle.repo_api.specs.Histories.{history_of}
-use Rattle.history.proofs.Lines.{goes_end, goes_step, goes_through}
+use Rattle.history.proofs.Along.{goes_end, goes_step, goes_through}
 use Rattle.history.proofs.locating.place_down.Goals as goal
 
 pub loop-at-preserved : goal.loop-at-preserved

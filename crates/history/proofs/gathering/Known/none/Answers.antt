@@ -1,4 +1,4 @@
-use Rattle.history.proofs.Lines.{none_known}
+use Rattle.history.proofs.Along.{none_known}
 use Rattle.history.proofs.gathering.Known.none.Goals as goal
 
 pub returns : goal.returns

@@ -1,14 +1,13 @@
 -- Traces that are gone along once, and what is known by that.
 use Rattle.std.proofs.Common.{◌≡◌, ◌<◌, ◌≤◌, ℕ, Bool, true, false, cond, List, [], ◌∷◌, Option, Some, None, arith, refl, sym, ap, ◌∙◌, subst}
-use Rattle.std.proofs.lemmas.{Bool.false≢true, Option.same_Some}
+use Rattle.std.proofs.{lemmas.Bool.false≢true, lemmas.Option.same_Some}
 use Rattle.std.specs.{BTreeMap.is_at, Cmp.unsigned_tied, Ordering.nat_cmp, Prelude.{◌==◌, is_some, if◌then◌else◌}}
 use borrow.Author.Tests.{eqb-true}
 use Rattle.svnpath.specs.Paths.{PathValue}
 use Rattle.repo_api.specs.Histories.{History}
 use Rattle.history.proofs.Steps.{ends_at, goes_on_to}
 use Rattle.history.specs.{Gathered.{GoesOn, IsLine, IsNoted, path_from, path_known}, declared.gathering.Line.Line}
-use Rattle.traces.specs.Traces.{trace, traced}
-use Rattle.traces.specs.declared.place.Place.{Place}
+use Rattle.traces.specs.{Traces.{trace, traced}, declared.place.Place.Place}
 
 pub goes_through : (h : History) (r : ℕ) (a b c : Option Place) → GoesOn h a r b → GoesOn h b r c → GoesOn h a r c
 goes_through h r a b c first second n upto = second n upto ∙ first n upto

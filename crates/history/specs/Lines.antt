@@ -1,0 +1,26 @@
+-- Lines of history: what was added once, followed through changes and copies.
+use Rattle.std.specs.Prelude.{◌≡◌, ◌==◌, ◌⊎◌, Bool, false, ◌&&◌, List, [], ◌∷◌}
+use Rattle.svnpath.specs.Paths.{same_path}
+use Rattle.repo_api.specs.Histories.{History}
+use Rattle.traces.specs.{Traces.trace, declared.place.Place.Place}
+
+-- two places are one
+abbrev pub same_place : Place → Place → Bool
+same_place a b = (a.revision == b.revision) && same_path a.path b.path
+
+-- the last of these places, or this one where there are none
+abbrev pub last_place : Place → List Place → Place
+last_place at [] = at
+last_place at (p ∷ ps) = last_place p ps
+
+-- the place at which a trace ends: where the entry was added, or the root's first
+abbrev pub line_start : History → Place → Place
+line_start h at = last_place at (trace h false at)
+
+-- two places are of one line of history
+abbrev pub is_one_line : History → Place → Place → Bool
+is_one_line h a b = same_place (line_start h a) (line_start h b)
+
+-- the first two places are the other two, in whichever order
+abbrev pub AreTheseTwo : Place → Place → Place → Place → Type 0
+AreTheseTwo a b c d = ((a ≡ c) × (b ≡ d)) ⊎ ((a ≡ d) × (b ≡ c))
