@@ -34,8 +34,9 @@ greeting item = do
   (url, rest) ← string_first rest
   _ ← optional_client rest
   let edit_pipeline = has_word (codes "edit-pipeline") capabilities
+  let mergeinfo = has_word (codes "mergeinfo") capabilities
   if are_words capabilities
-      then Some (record { version = version; edit_pipeline = edit_pipeline; url = url })
+      then Some (record { version = version; edit_pipeline = edit_pipeline; mergeinfo = mergeinfo; url = url })
       else None
 
 -- the client's answer to the greeting that an item is, or why it is none

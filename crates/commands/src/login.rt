@@ -19,6 +19,8 @@ pub struct ClientGreeting {
     pub version: u64,
     /// Whether the client can send an edit without waiting for answers.
     pub edit_pipeline: bool,
+    /// Whether the client knows of merges that are recorded: a client of today does.
+    pub mergeinfo: bool,
     /// The URL that the client wants.
     pub url: ByteString,
 }
@@ -48,6 +50,7 @@ impl ClientGreeting {
         Ok(ClientGreeting {
             version,
             edit_pipeline: has_word(b"edit-pipeline", capabilities),
+            mergeinfo: has_word(b"mergeinfo", capabilities),
             url: url.clone()?,
         })
     }

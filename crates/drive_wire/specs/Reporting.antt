@@ -1,10 +1,10 @@
 -- What the commands of a report draw.
-use Rattle.std.specs.Prelude.{◌≡◌, ℕ, Bool, true, false, List, Option, Some, None, Result, Ok, Err, codes, if◌then◌else◌}
-use Rattle.items.specs.Values.{ItemValue, ItemValues}
+use Rattle.std.specs.Prelude.{◌≡◌, ℕ, List, [], ◌∷◌, Option, Some, None, unwrap_or, Result, Ok, Err, codes, if◌then◌else◌}
+use Rattle.items.specs.Values.{ItemValue, ItemValues, more, none}
 use Rattle.refusals.specs.declared.Refusal.{Refusal}
 use Rattle.refusals.specs.declared.Refusal.TheVariants as refusals
 use Rattle.repo_api.specs.{Soundness.AreTrees, States.RepoState}
-use Rattle.wire_forms.specs.{Forms.{is_name, command_form}, declared.fault.CommandFault.CommandFault}
+use Rattle.wire_forms.specs.{Forms.{◌>>=◌, is_name, items_in, number_first, string_first, command_form}, declared.fault.CommandFault.CommandFault}
 use Rattle.wire_forms.specs.declared.fault.CommandFault.TheVariants.{UnknownName, BadParameters, NoMemory}
 use Rattle.wire_edits.specs.declared.editing.EditorCommand.{EditorCommand}
 use Rattle.wire_reports.specs.{Reporting.{report_command, name_of}, declared.report.ReportCommand.ReportCommand}
@@ -13,7 +13,9 @@ use Rattle.wire_reports.specs.declared.report.ReportName.{ReportName}
 use Rattle.wire_reports.specs.declared.report.ReportName.TheVariants as names
 use Rattle.drive_reports.specs.{Refusing.{OpenState, ReportState, set_path_answer, delete_path_answer, finish_answer, kept_report}, Targets.WholeReport}
 use Rattle.drive_reports.specs.declared.report.Report.TheVariants.{Refused, Open}
-use Rattle.drive_wire.specs.Sent.{IsDrive}
+use Rattle.wire_replies.specs.declared.failures.FailureLink.{FailureLink}
+use Rattle.drive_wire.specs.{Sent.IsDrive, declared.answering.ClientAnswer.ClientAnswer, declared.answering.ClientAnswer.TheVariants.Taken}
+use Rattle.drive_wire.specs.declared.answering.ClientAnswer.TheVariants as answers
 
 -- What a command of a report draws: nothing yet; nothing, and the report is given up; a failure; a
 -- drive, whose answer is awaited; or a failure that ends the session. A request of a login that
@@ -66,18 +68,37 @@ ReportStep name (Open report) item c d = OpenStep name report (report_command it
 
 -- ---- the client's answer to a drive
 
--- whether it is a success
-abbrev pub is_success : List ℕ → Option Bool
-is_success name =
-    if is_name name (codes "success") then Some true
-    else if is_name name (codes "failure") then Some false
+-- `( number message file line )`: a link of a failure
+abbrev pub failure_link : ItemValue → Option FailureLink
+failure_link item = do
+  items ← items_in item
+  (n, rest) ← number_first items
+  (message, rest) ← string_first rest
+  (file, rest) ← string_first rest
+  (line, _) ← number_first rest
+  Some (record { number = n; message = message; file = file; line = line })
+
+-- `( number message file line ) ...`
+abbrev pub failure_links : ItemValues → Option (List FailureLink)
+failure_links none = Some []
+failure_links (more item rest) = do
+  l ← failure_link item
+  ls ← failure_links rest
+  Some (l ∷ ls)
+
+-- the links of a failure; where one of them is of another form there are none
+abbrev pub reason : ItemValues → List FailureLink
+reason params = unwrap_or (failure_links params) []
+
+-- the answer of this name
+abbrev pub answer_of : List ℕ → ItemValues → Option ClientAnswer
+answer_of name params =
+    if is_name name (codes "success") then Some Taken
+    else if is_name name (codes "failure") then Some (answers.GivenUp (reason params))
     else None
 
--- whether a success is told, if anything is answered
-abbrev pub answer_of : Option (List ℕ × ItemValues) → Option Bool
-answer_of None = None
-answer_of (Some form) = is_success form.0
-
--- whether the client's answer is a success, if the item is an answer
-abbrev pub client_answer : ItemValue → Option Bool
-client_answer item = answer_of (command_form item)
+-- `( success ( ... ) )` or `( failure ( link ... ) )`: what the client answers, if the item is an answer
+abbrev pub client_answer : ItemValue → Option ClientAnswer
+client_answer item = do
+  (name, params) ← command_form item
+  answer_of name params

@@ -18,8 +18,10 @@ use Rattle.commands.specs.{declared.command.UnlockCommand.UnlockCommand, declare
 use Rattle.wire_edits.specs.{Editing.{editor_command, ends_edit}, declared.editing.EditorCommand.EditorCommand}
 use Rattle.wire_edits.specs.declared.editing.EditorCommand.TheVariants as edits
 use Rattle.drive_wire.specs.{Reporting.{Drawn, client_answer}, Reporting.Drawn.{GoesOn, GivenUp, Fails as Draws, Drives, Malformed}}
+use Rattle.drive_wire.specs.{declared.answering.ClientAnswer.ClientAnswer, declared.answering.ClientAnswer.TheVariants.Taken}
+use Rattle.drive_wire.specs.declared.answering.ClientAnswer.TheVariants as answers
 use Rattle.edit_rules.specs.Editor.{finished}
-use Rattle.wire_replies.specs.{declared.reply.Reply.Reply, declared.reply.Reply.TheVariants.{Success, NoLogin, CommitInfo, Failure}}
+use Rattle.wire_replies.specs.{declared.reply.Reply.Reply, declared.reply.Reply.TheVariants.{Success, NoLogin, CommitInfo}}
 use Rattle.machine.specs.Answers.{Answer, Behind, behind, change_answer, ChangeStep, content_after, is_halt, IsOfChange, says, Step, Verdict}
 use Rattle.machine.specs.{Answers.Verdict.{NotWritten, Unknown, Written}, Commands.{asked_by, commit_begins, is_long_comment, lock_answer, lock_ask, lock_tokens}}
 use Rattle.machine.specs.Commands.{LockingStep, LockStep}
@@ -33,36 +35,36 @@ use Rattle.machine.specs.{declared.login.OpenLogin.OpenLogin, declared.login.Ope
 use Rattle.machine.specs.declared.phase.Phase.TheVariants.{Greeted, LoggingIn, Challenged, Serving, Editing, Skipping, Reporting, Driven, Ended}
 use Rattle.machine.specs.declared.phase.Client.{Client}
 use Rattle.machine.specs.declared.login.Mechanism.TheVariants as mechanisms
-use Rattle.hub_runs.specs.{Asked.{IsAskedBy, IsOfEdit, IsWaiting, IsAsked, AreAll}, Laws.{EndsWith, release_behind, IsTold, UsesWord}}
+use Rattle.hub_runs.specs.{Asked.{IsAskedBy, IsOfEdit, IsWaiting, IsAsked, AreAll}, Laws.{EndsWith, IsFailure, release_behind, IsTold, UsesWord}}
 use Rattle.hub_runs.proofs.Revising.{AreOthers}
 
 -- ---- replies without a failure
 
 abbrev pub IsPlain : Reply → Type 0
-IsPlain reply = (r : Refusal) → reply ≡ Failure r → ⊥
+IsPlain reply = IsFailure reply → ⊥
 
 abbrev pub ArePlain : List Reply → Type 0
 ArePlain [] = Unit {0}
 ArePlain (reply ∷ told) = IsPlain reply × ArePlain told
 
-pub no_failure : (told : List Reply) (r : Refusal) → ArePlain told → Contains told (Failure r) → ⊥
-no_failure [] r plain (k, lt, e) = absurd (omega (arith, lt))
-no_failure (reply ∷ told) r plain (zero, lt, e) = plain.0 r e
-no_failure (reply ∷ told) r plain (suc k, lt, e) = no_failure told r plain.1 (k, omega (arith, lt), e)
+pub no_failure : (told : List Reply) (reply : Reply) → ArePlain told → Contains told reply → IsFailure reply → ⊥
+no_failure [] reply plain (k, lt, e) fails = absurd (omega (arith, lt))
+no_failure (first ∷ told) reply plain (zero, lt, e) fails = plain.0 (subst IsFailure (sym e) fails)
+no_failure (first ∷ told) reply plain (suc k, lt, e) fails = no_failure told reply plain.1 (k, omega (arith, lt), e) fails
 
 plain_all : (told more : List Reply) → ArePlain told → ArePlain more → ArePlain (told ++ more)
 plain_all [] more plain rest = rest
 plain_all (reply ∷ told) more plain rest = (plain.0, plain_all told more plain.1 rest)
 
 plain_request : (command : MainCommand) → ArePlain (login_request command)
-plain_request (Read command) = (λ r e. cc, tt)
-plain_request (Drive command) = (λ r e. cc, tt)
-plain_request (Commit command) = (λ r e. cc, tt)
+plain_request (Read command) = (λ fails. fails, tt)
+plain_request (Drive command) = (λ fails. fails, tt)
+plain_request (Commit command) = (λ fails. fails, tt)
 plain_request AbortEdit = tt
-plain_request (LockPath command) = (λ r e. cc, tt)
-plain_request (UnlockPath command) = (λ r e. cc, tt)
-plain_request (ChangeRevProp command) = (λ r e. cc, tt)
-plain_request (Reparent url) = (λ r e. cc, tt)
+plain_request (LockPath command) = (λ fails. fails, tt)
+plain_request (UnlockPath command) = (λ fails. fails, tt)
+plain_request (ChangeRevProp command) = (λ fails. fails, tt)
+plain_request (Reparent url) = (λ fails. fails, tt)
 
 -- ---- what an answer does
 
@@ -173,10 +175,10 @@ does_behind P may halted env c told own a plain each (b, step, is) =
 
 -- ---- answers that change nothing
 
-quiet_url : (s : Settings) (env : Env) (path : Result PathValue PathFault) (root : Result (List ℕ) PathFault) → Quiet env (url_answer s env path root)
-quiet_url s env (Ok path) (Ok root) = (refl, refl, refl)
-quiet_url s env (Ok path) (Err fault) = (refl, refl, refl)
-quiet_url s env (Err fault) root = (refl, refl, refl)
+quiet_url : (s : Settings) (env : Env) (g : ClientGreeting) (path : Result PathValue PathFault) (root : Result (List ℕ) PathFault) → Quiet env (url_answer s env g path root)
+quiet_url s env g (Ok path) (Ok root) = (refl, refl, refl)
+quiet_url s env g (Ok path) (Err fault) = (refl, refl, refl)
+quiet_url s env g (Err fault) root = (refl, refl, refl)
 
 quiet_if : (env : Env) (b : Bool) (x y : Answer) → Quiet env x → Quiet env y → Quiet env (if b then x else y)
 quiet_if env true x y p q = p
@@ -186,7 +188,7 @@ quiet_greeting : (s : Settings) (env : Env) (r : Result ClientGreeting CommandFa
 quiet_greeting s env (Ok g) =
     let path = path_of_text g.url s.name in
     let root = root_of_text g.url s.name in
-    quiet_if env (speaks g) (url_answer s env path root) (says env Ended []) (quiet_url s env path root) (refl, refl, refl)
+    quiet_if env (speaks g) (url_answer s env g path root) (says env Ended []) (quiet_url s env g path root) (refl, refl, refl)
 quiet_greeting s env (Err fault) = (refl, refl, refl)
 
 quiet_begins : (s : Settings) (env : Env) (client : Client) (r : Result CommitParameters Refusal) → Quiet env (commit_begins s env client r)
@@ -209,10 +211,10 @@ quiet_drawn env client (Draws r) = (refl, refl, refl)
 quiet_drawn env client (Drives drive) = (refl, refl, refl)
 quiet_drawn env client Malformed = (refl, refl, refl)
 
-quiet_driven : (env : Env) (client : Client) (answer : Option Bool) → Quiet env (driven_answer env client answer)
+quiet_driven : (env : Env) (client : Client) (answer : Option ClientAnswer) → Quiet env (driven_answer env client answer)
 quiet_driven env client None = (refl, refl, refl)
-quiet_driven env client (Some true) = (refl, refl, refl)
-quiet_driven env client (Some false) = (refl, refl, refl)
+quiet_driven env client (Some Taken) = (refl, refl, refl)
+quiet_driven env client (Some (answers.GivenUp links)) = (refl, refl, refl)
 
 -- ---- changes of locks, and of properties of revisions
 
@@ -248,7 +250,7 @@ locks may env c client command path date named dated accepted Written of = recor
   told = (refl, ([], refl));
   words = (refl, refl);
   closed = λ shut. (tt, tt);
-  plain = inr (refl, (λ r e. cc, tt));
+  plain = inr (refl, (λ fails. fails, tt));
   halt = tt;
 }
 locks may env c client command path date named dated accepted NotWritten of =
@@ -278,7 +280,7 @@ unlocks may env c client command path named accepted Written of = record {
   told = (refl, ([], refl));
   words = refl;
   closed = λ shut. (tt, tt);
-  plain = inr (refl, (λ r e. cc, tt));
+  plain = inr (refl, (λ fails. fails, tt));
   halt = tt;
 }
 unlocks may env c client command path named accepted NotWritten of =
@@ -303,7 +305,7 @@ revises env c client ask accepted Written of = record {
   told = (refl, ([], refl));
   words = refl;
   closed = λ shut. absurd (true≢false shut);
-  plain = inr (refl, (λ r e. cc, tt));
+  plain = inr (refl, (λ fails. fails, tt));
   halt = tt;
 }
 revises env c client ask accepted NotWritten of =
@@ -358,7 +360,7 @@ does_logged_in : (halted : Bool) (s : Settings) (env : Env) (c : RepoState) (cli
 does_logged_in halted s env c client None a is = quiet a _ is (refl, refl, refl)
 does_logged_in halted s env c client (Some command) a step =
     does_as (IsAskedBy env client command) (IsWaiting env client (Some command)) a (λ e one. (command, refl, one))
-    (does_behind (IsAskedBy env client command) s.revprops halted env c (Success ∷ []) (OwnStep s env client command) a (λ r e. cc, tt)
+    (does_behind (IsAskedBy env client command) s.revprops halted env c (Success ∷ []) (OwnStep s env client command) a (λ fails. fails, tt)
     (own halted s env c client command) step)
 
 does_choice : (halted : Bool) (s : Settings) (env : Env) (c : RepoState) (login : OpenLogin) (mechanism : Option Mechanism) (a : Answer)
@@ -452,7 +454,7 @@ does_committed {may} env c edit t date Written a txn dated accepted (release, of
       told = release_told c ask t release (fails_wanted wants release of) (sym released);
       words = refl;
       closed = λ shut. (tt, subst AreOthers released behind.2);
-      plain = inr (refl, (λ r e. cc, (λ r e. cc, (λ r e. cc, tt))));
+      plain = inr (refl, (λ fails. fails, (λ fails. fails, (λ fails. fails, tt))));
       halt = release_halts (IsOfEdit env edit) after ask wants release (refl, refl) refl of;
     })
 does_committed env c edit t date NotWritten a txn dated accepted is = quiet a _ is (refl, refl, refl)

@@ -7,9 +7,8 @@ use Rattle.repo_api.specs.{Accepted.{Accepted, changed}, Accepted.Accepted.{Chan
 use Rattle.repo_api.specs.{LockRuns.{HaveNewTokens, HaveOwnTokens, IsNewToken, names_lock}, Locking.{is_handed_in, is_in_the_way, lock_of}}
 use Rattle.repo_api.specs.{Marks.{own_of, shown}, Merge.is_changed, Opening.new_repository, Properties.PropertyList}
 use Rattle.repo_api.specs.{States.{LockMap, RepoState, tree_at, TxnState, youngest}, declared.lock.Lock.Lock as LockValue, declared.ask.CommitAsk.CommitAsk}
-use Rattle.refusals.specs.declared.Refusal.{Refusal}
 use Rattle.wire_forms.specs.Forms.{is_name}
-use Rattle.wire_replies.specs.{declared.reply.Reply.Reply, declared.reply.Reply.TheVariants.{Success, Lock, CommitInfo, Failure}}
+use Rattle.wire_replies.specs.{declared.reply.Reply.Reply, declared.reply.Reply.TheVariants.{Success, Lock, CommitInfo, Failure, Failures}}
 use Rattle.machine.specs.{Commands.{env_without_token, token_text}, Hearing.Input, Hearing.Input.{Broken, Whole}, Readings.revision_value, Settings.Settings}
 use Rattle.machine.specs.declared.env.Env.{Env}
 use Rattle.hub_runs.specs.{State.HubState, Runs.{Event, HubRun}}
@@ -26,9 +25,15 @@ new_hub settings uuid date = record {
   used = 0;
 }
 
+-- a failure: a refusal, or one that has its links from a client
+abbrev pub IsFailure : Reply → Type 0
+IsFailure (Failure r) = Unit {0}
+IsFailure (Failures links) = Unit {0}
+IsFailure _ = ⊥
+
 -- one of these replies is a failure
 abbrev pub TellsFailure : List Reply → Type 0
-TellsFailure told = (r : Refusal) × Contains told (Failure r)
+TellsFailure told = (reply : Reply) × Contains told reply × IsFailure reply
 
 -- the last of the replies is this one
 abbrev pub EndsWith : List Reply → Reply → Type 0

@@ -24,6 +24,8 @@ use Rattle.wire_forms.specs.{declared.fault.CommandFault.CommandFault, declared.
 use Rattle.wire_replies.specs.declared.reply.Reply.{Reply}
 use Rattle.wire_replies.specs.declared.reply.Reply.TheVariants as replies
 use Rattle.drive_wire.specs.{Reporting.{Drawn, client_answer}, Reporting.Drawn.{GoesOn, GivenUp, Fails, Drives, Malformed}}
+use Rattle.drive_wire.specs.{declared.answering.ClientAnswer.ClientAnswer, declared.answering.ClientAnswer.TheVariants.Taken}
+use Rattle.drive_wire.specs.declared.answering.ClientAnswer.TheVariants as answers
 use Rattle.edit_rules.specs.Edits.{new_edit}
 use Rattle.machine.specs.declared.login.Mechanism.TheVariants as mechanisms
 
@@ -87,23 +89,23 @@ quiet_drawn s env client (Fails r) = plain s env client _
 quiet_drawn s env client (Drives drive) = record { kept = tt; new = tt }
 quiet_drawn s env client Malformed = ending s env _
 
-quiet_driven : (s : Settings) (env : Env) (client : Client) (answer : Option Bool) → IsQuiet s (driven_answer env client answer)
+quiet_driven : (s : Settings) (env : Env) (client : Client) (answer : Option ClientAnswer) → IsQuiet s (driven_answer env client answer)
 quiet_driven s env client None = ending s env _
-quiet_driven s env client (Some true) = plain s env client _
-quiet_driven s env client (Some false) = plain s env client _
+quiet_driven s env client (Some Taken) = plain s env client _
+quiet_driven s env client (Some (answers.GivenUp links)) = plain s env client _
 
 -- ---- the greeting
 
-quiet_url : (s : Settings) (env : Env) (path : Result PathValue PathFault) (root : Result (List ℕ) PathFault) → IsQuiet s (url_answer s env path root)
-quiet_url s env (Ok path) (Ok root) = asking s env _ _
-quiet_url s env (Ok path) (Err fault) = ending s env _
-quiet_url s env (Err fault) root = ending s env _
+quiet_url : (s : Settings) (env : Env) (g : ClientGreeting) (path : Result PathValue PathFault) (root : Result (List ℕ) PathFault) → IsQuiet s (url_answer s env g path root)
+quiet_url s env g (Ok path) (Ok root) = asking s env _ _
+quiet_url s env g (Ok path) (Err fault) = ending s env _
+quiet_url s env g (Err fault) root = ending s env _
 
 quiet_greeting : (s : Settings) (env : Env) (r : Result ClientGreeting CommandFault) → IsQuiet s (greeting_answer s env r)
 quiet_greeting s env (Ok g) =
     let path = path_of_text g.url s.name in
     let root = root_of_text g.url s.name in
-    quiet_if s (speaks g) (url_answer s env path root) (says env Ended []) (quiet_url s env path root) (ending s env [])
+    quiet_if s (speaks g) (url_answer s env g path root) (says env Ended []) (quiet_url s env g path root) (ending s env [])
 quiet_greeting s env (Err fault) = ending s env _
 
 -- ---- changes

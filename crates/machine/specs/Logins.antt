@@ -52,12 +52,18 @@ wants_user s client command = is_some s.users && is_none client.user && is_write
 
 -- ---- after the greeting
 
-abbrev pub url_answer : Settings → Env → Result PathValue PathFault → Result (List ℕ) PathFault
-    → Answer
-url_answer s env (Ok path) (Ok root) =
-    asks s env (record { client = record { path = path; root = root; user = None }; waiting = None })
-url_answer s env (Ok path) (Err fault) = says env Ended (replies.Failure (path_refusal fault) ∷ [])
-url_answer s env (Err fault) root = says env Ended (replies.Failure (path_refusal fault) ∷ [])
+-- a client that lists `mergeinfo` among what it can do is one of today, from its login on
+abbrev pub new_client : ClientGreeting → PathValue → List ℕ → Client
+new_client g path root =
+    record { path = path; root = root; user = None; is_of_today = g.mergeinfo }
+
+abbrev pub url_answer : Settings → Env → ClientGreeting → Result PathValue PathFault
+    → Result (List ℕ) PathFault → Answer
+url_answer s env g (Ok path) (Ok root) =
+    asks s env (record { client = new_client g path root; waiting = None })
+url_answer s env g (Ok path) (Err fault) =
+    says env Ended (replies.Failure (path_refusal fault) ∷ [])
+url_answer s env g (Err fault) root = says env Ended (replies.Failure (path_refusal fault) ∷ [])
 
 -- another version, or a client that waits within edits, is left without a word
 abbrev pub speaks : ClientGreeting → Bool
@@ -65,7 +71,7 @@ speaks g = (g.version == 2) && g.edit_pipeline
 
 abbrev pub greeting_answer : Settings → Env → Result ClientGreeting CommandFault → Answer
 greeting_answer s env (Ok g) =
-    if speaks g then url_answer s env (path_of_text g.url s.name) (root_of_text g.url s.name)
+    if speaks g then url_answer s env g (path_of_text g.url s.name) (root_of_text g.url s.name)
     else says env Ended []
 greeting_answer s env (Err fault) = malformed env
 

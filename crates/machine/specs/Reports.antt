@@ -4,9 +4,12 @@ use Rattle.items.specs.Values.{ItemValue}
 use Rattle.refusals.specs.declared.Refusal.TheVariants as refusals
 use Rattle.repo_api.specs.States.{RepoState}
 use Rattle.wire_edits.specs.declared.editing.EditorCommand.TheVariants as edits
+use Rattle.wire_replies.specs.{declared.failures.FailureLink.FailureLink, declared.reply.Reply.Reply}
 use Rattle.wire_replies.specs.declared.reply.Reply.TheVariants as replies
 use Rattle.drive_reports.specs.declared.graft.Graft.{Graft}
 use Rattle.drive_wire.specs.{Reporting.{Drawn, ReportStep}, Reporting.Drawn.{GoesOn, GivenUp, Fails, Drives, Malformed}}
+use Rattle.drive_wire.specs.{declared.answering.ClientAnswer.ClientAnswer, declared.answering.ClientAnswer.TheVariants.Taken}
+use Rattle.drive_wire.specs.declared.answering.ClientAnswer.TheVariants as answers
 use Rattle.machine.specs.{Settings.Settings, Answers.{Answer, Step, says, serves, malformed}, declared.env.Env.Env, declared.phase.Client.Client}
 use Rattle.machine.specs.{declared.phase.OpenReporting.OpenReporting, declared.phase.Phase.TheVariants.{Serving, Reporting, Driven}}
 
@@ -34,10 +37,17 @@ abbrev pub ReportingStep : Settings → Env → MachineReport → ItemValue → 
 ReportingStep s env reporting item =
     Draws env reporting.client (ReportStep s.name reporting.report item)
 
+-- the failure that a client is sent after it gave a drive up: one of today gets its own links back,
+-- if there are any
+abbrev pub drive_failure : Bool → List FailureLink → Reply
+drive_failure true (link ∷ links) = replies.Failures (link ∷ links)
+drive_failure true [] = replies.Failure refusals.EditAborted
+drive_failure false links = replies.Failure refusals.EditAborted
+
 -- the client's answer to a drive: it was taken, or the drive is given up
-abbrev pub driven_answer : Env → Client → Option Bool → Answer
+abbrev pub driven_answer : Env → Client → Option ClientAnswer → Answer
 driven_answer env client None = malformed env
-driven_answer env client (Some true) = serves env client replies.Success
-driven_answer env client (Some false) =
+driven_answer env client (Some Taken) = serves env client replies.Success
+driven_answer env client (Some (answers.GivenUp links)) =
     says env (Serving client)
-    (replies.Edit edits.AbortEdit ∷ replies.Failure refusals.EditAborted ∷ [])
+    (replies.Edit edits.AbortEdit ∷ drive_failure client.is_of_today links ∷ [])

@@ -3,6 +3,7 @@
 
 mod comments;
 mod commit_parameters;
+mod drive_failures;
 mod ending;
 mod env;
 mod laws;
@@ -13,6 +14,7 @@ mod turn;
 
 pub use comments::{COMMENT_LIMIT, is_long_comment};
 pub use commit_parameters::CommitParameters;
+pub use drive_failures::drive_failure;
 pub use ending::{Ending, ending_of};
 pub use env::Env;
 pub use laws::{one_hearing, steps_keep_trees, steps_rest};

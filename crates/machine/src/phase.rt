@@ -9,11 +9,12 @@ use drive_reports::Report;
 use svnpath::Path;
 
 /// Where a client is: the path of its URL in the repository, the root's URL as it spells it, and its user,
-/// if it has one.
+/// if it has one; and whether it is a client of today.
 pub struct Client {
     pub path: Path,
     pub root: ByteString,
     pub user: Option<ByteString>,
+    pub is_of_today: bool,
 }
 
 impl Drop for Client {
@@ -22,19 +23,26 @@ impl Drop for Client {
             path: _,
             root: _,
             user: _,
+            is_of_today: _,
         } = self;
     }
 }
 
 impl Client {
-    /// Gives its path, its root and its user.
-    pub fn into_parts(self) -> (Path, ByteString, Option<ByteString>)
+    /// Gives its path, its root, its user and whether it is a client of today.
+    pub fn into_parts(self) -> (Path, ByteString, Option<ByteString>, bool)
         ensures path { result.0 ≡ self.path }
         ensures root { result.1 ≡ self.root }
         ensures user { result.2 ≡ self.user }
+        ensures is_of_today { result.3 ≡ self.is_of_today }
     {
-        let Client { path, root, user } = self;
-        (path, root, user)
+        let Client {
+            path,
+            root,
+            user,
+            is_of_today,
+        } = self;
+        (path, root, user, is_of_today)
     }
 }
 

@@ -5,6 +5,8 @@ use Rattle.svnpath.specs.{Paths.PathValue, Urls.{path_of_text, root_of_text}, de
 use Rattle.repo_api.specs.States.{RepoState}
 use Rattle.wire_forms.specs.declared.fault.CommandFault.{CommandFault}
 use Rattle.commands.specs.declared.login.ClientGreeting.{ClientGreeting}
+use Rattle.drive_wire.specs.{declared.answering.ClientAnswer.ClientAnswer, declared.answering.ClientAnswer.TheVariants.Taken}
+use Rattle.drive_wire.specs.declared.answering.ClientAnswer.TheVariants as answers
 use Rattle.machine.specs.{Answers.{Answer, malformed, no_effect, says}, Hearing.Input.Broken, Logins.{greeting_answer, speaks, url_answer}}
 use Rattle.machine.specs.{Machine.{InputStep, skipping_answer}, Reports.driven_answer, Settings.Settings, Stages.{is_open, Stage}, declared.env.Env.Env}
 use Rattle.machine.specs.declared.phase.Client.{Client}
@@ -16,16 +18,16 @@ nothing_if false x y p q = q
 
 -- ---- the greeting
 
-url_nothing : (s : Settings) (env : Env) (path : Result PathValue PathFault) (root : Result (List ℕ) PathFault) → (url_answer s env path root).effect ≡ no_effect
-url_nothing s env (Ok path) (Ok root) = refl
-url_nothing s env (Ok path) (Err fault) = refl
-url_nothing s env (Err fault) root = refl
+url_nothing : (s : Settings) (env : Env) (g : ClientGreeting) (path : Result PathValue PathFault) (root : Result (List ℕ) PathFault) → (url_answer s env g path root).effect ≡ no_effect
+url_nothing s env g (Ok path) (Ok root) = refl
+url_nothing s env g (Ok path) (Err fault) = refl
+url_nothing s env g (Err fault) root = refl
 
 pub greeting_nothing : (s : Settings) (env : Env) (r : Result ClientGreeting CommandFault) → (greeting_answer s env r).effect ≡ no_effect
 greeting_nothing s env (Ok g) =
     let path = path_of_text g.url s.name in
     let root = root_of_text g.url s.name in
-    nothing_if (speaks g) (url_answer s env path root) (says env Ended []) (url_nothing s env path root) refl
+    nothing_if (speaks g) (url_answer s env g path root) (says env Ended []) (url_nothing s env g path root) refl
 greeting_nothing s env (Err fault) = refl
 
 -- ---- an edit that was given up
@@ -37,10 +39,10 @@ skipping_nothing env client (Some false) = refl
 
 -- ---- the client's answer to a drive
 
-pub driven_nothing : (env : Env) (client : Client) (answer : Option Bool) → (driven_answer env client answer).effect ≡ no_effect
+pub driven_nothing : (env : Env) (client : Client) (answer : Option ClientAnswer) → (driven_answer env client answer).effect ≡ no_effect
 driven_nothing env client None = refl
-driven_nothing env client (Some true) = refl
-driven_nothing env client (Some false) = refl
+driven_nothing env client (Some Taken) = refl
+driven_nothing env client (Some (answers.GivenUp links)) = refl
 
 -- ---- a byte that goes on to no item
 

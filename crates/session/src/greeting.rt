@@ -2,7 +2,7 @@
 ghost use Rattle.std.specs.Prelude.{◌≡◌, ◌∷◌, [], Ok, None};
 ghost use Rattle.items.specs.View.{value_of};
 ghost use Rattle.commands.specs.Logins.{client_greeting};
-ghost use Rattle.machine.specs.{Answers.says, Logins.{greeting_answer, speaks}, Steps.Answered};
+ghost use Rattle.machine.specs.{Answers.says, Logins.{greeting_answer, new_client, speaks}, Steps.Answered};
 
 use byte_string::ByteString;
 use commands::ClientGreeting;
@@ -25,17 +25,15 @@ fn speaks(greeting: &ClientGreeting) -> bool
 }
 
 /// Makes the login of a client at this path of the repository, for which nothing waits.
-fn new_login(path: Path, root: ByteString) -> OpenLogin
-    ensures { result ≡ record {
-      client = record { path = path; root = root; user = None };
-      waiting = None;
-    } }
+fn new_login(greeting: &ClientGreeting, path: Path, root: ByteString) -> OpenLogin
+    ensures { result ≡ record { client = new_client greeting.now path root; waiting = None } }
 {
     OpenLogin {
         client: Client {
             path,
             root,
             user: None,
+            is_of_today: greeting.mergeinfo,
         },
         waiting: None,
     }
@@ -66,7 +64,9 @@ fn answer_greeting<R: Repository, S: ReplySink>(
         return Ok(Phase::Ended);
     }
     match RepositoryUrl::read(turn.alloc, greeting.url.as_slice(), options.name()) {
-        Ok(RepositoryUrl { root, path }) => ask_for_login(options, new_login(path, root), turn),
+        Ok(RepositoryUrl { root, path }) => {
+            ask_for_login(options, new_login(greeting, path, root), turn)
+        },
         Err(PathFault::NoMemory) => Err(AllocError),
         Err(fault) => end_refused(path_refusal(fault), turn),
     }

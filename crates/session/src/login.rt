@@ -76,13 +76,14 @@ fn with_user(login: OpenLogin, name: ByteString) -> OpenLogin
     ensures { result ≡ record login { client = with_user login.client name } }
 {
     let (client, waiting) = login.into_parts();
-    let (path, root, user) = client.into_parts();
+    let (path, root, user, is_of_today) = client.into_parts();
     drop(user);
     OpenLogin {
         client: Client {
             path,
             root,
             user: Some(name),
+            is_of_today,
         },
         waiting,
     }

@@ -18,9 +18,14 @@ use wire_replies::{Reply, ReplySink};
 fn at_path(client: Client, path: Path) -> Client
     ensures { result ≡ at_path client path }
 {
-    let (before, root, user) = client.into_parts();
+    let (before, root, user, is_of_today) = client.into_parts();
     drop(before);
-    Client { path, root, user }
+    Client {
+        path,
+        root,
+        user,
+        is_of_today,
+    }
 }
 
 /// Lets a client go on at another URL; one that is refused leaves it where it is.

@@ -1,6 +1,7 @@
 pub mod Constants
 pub mod PropertyRows
 pub mod LockRows
+pub mod FailureRows
 pub mod EntryRows
 pub mod ChangeRows
 pub mod Made

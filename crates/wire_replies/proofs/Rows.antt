@@ -4,7 +4,7 @@ use Rattle.std.proofs.Common.{◌≡◌, true, false, List, ℕ, [], ◌∷◌, 
 use Rattle.repo_api.specs.declared.change.Action.TheVariants as actions
 use Rattle.repo_api.specs.declared.entry.NodeKind.TheVariants as kinds
 use Rattle.wire_replies.specs.{Replies.{contents, print}, declared.entries.NodeInfo.NodeInfo, declared.histories.LoggedChange.LoggedChange}
-use Rattle.wire_replies.specs.declared.reply.Reply.TheVariants.{Success, FileInfo, DirectoryInfo, Stat, RevisionProperty, LogEntry, Location, Done}
+use Rattle.wire_replies.specs.declared.reply.Reply.TheVariants.{Success, FileInfo, DirectoryInfo, Stat, RevisionProperty, LogEntry, Location, Done, Failures}
 
 -- ---- what is known of a path
 
@@ -89,3 +89,10 @@ pub locations_row : print (Location 4 (codes "branch" ∷ codes "g" ∷ []) ∷ 
     ≡ codes "( 4 9:/branch/g ) ( 3 8:/trunk/g ) done "
 unfolding digits
 locations_row = refl
+
+-- ---- failures of several links
+
+pub failures_row : print (Failures (record { number = 155017; message = codes "Checksum mismatch"; file = codes "up.c"; line = 12 } ∷ record { number = 155000; message = codes "A/f"; file = []; line = 0 } ∷ []) ∷ [])
+    ≡ codes "( failure ( ( 155017 17:Checksum mismatch 4:up.c 12 ) ( 155000 3:A/f 0: 0 ) ) ) "
+unfolding digits
+failures_row = refl

@@ -12,11 +12,12 @@ use Rattle.repo_api.specs.declared.change.Action.TheVariants as actions
 use Rattle.repo_api.specs.declared.entry.NodeKind.TheVariants as kinds
 use Rattle.wire_replies.specs.{Pieces.pieces, declared.entries.DirectoryInfo.DirectoryInfo as DirectoryInfoValue}
 use Rattle.wire_replies.specs.{declared.entries.FileInfo.FileInfo as FileInfoValue, declared.entries.NodeInfo.NodeInfo}
-use Rattle.wire_replies.specs.{declared.histories.LogEntry.LogEntry as LogEntryValue, declared.histories.LoggedChange.LoggedChange, declared.reply.Offer.Offer}
+use Rattle.wire_replies.specs.{declared.failures.FailureLink.FailureLink, declared.histories.LogEntry.LogEntry as LogEntryValue}
+use Rattle.wire_replies.specs.{declared.histories.LoggedChange.LoggedChange, declared.reply.Offer.Offer}
 use Rattle.wire_replies.specs.{declared.reply.Offer.TheVariants.{Anonymous, AnonymousOrUser, User}, declared.reply.Reply.Reply}
 use Rattle.wire_replies.specs.declared.reply.Reply.TheVariants.{Greeting, NoLogin, Login, MechanismNotOffered, Challenge, LoginFailed, Success, ReposInfo}
 use Rattle.wire_replies.specs.declared.reply.Reply.TheVariants.{Revision, Kind, Properties, Lock, Locks, CommitInfo, FileInfo, Piece, DirectoryInfo, Stat}
-use Rattle.wire_replies.specs.declared.reply.Reply.TheVariants.{RevisionProperty, LogEntry, Location, Edit, Done, Failure}
+use Rattle.wire_replies.specs.declared.reply.Reply.TheVariants.{RevisionProperty, LogEntry, Location, Edit, Done, Failure, Failures}
 
 -- the text of a number of 128 bits: `8-4-4-4-12` lower-case hexadecimal digits
 abbrev pub uuid_text : ℕ → List ℕ
@@ -142,6 +143,17 @@ abbrev pub lock_trees : List (PathValue × LockValue) → ItemValues
 lock_trees [] = none
 lock_trees (l ∷ ls) = more (lock_tree l.0 l.1) (lock_trees ls)
 
+-- `( number message file line )`: a link of a failure
+abbrev pub link_item : FailureLink → ItemValue
+link_item link =
+    list (more (number link.number) (more (string link.message)
+    (both (string link.file) (number link.line))))
+
+-- `( number message file line ) ...`
+abbrev pub link_items : List FailureLink → ItemValues
+link_items [] = none
+link_items (l ∷ ls) = more (link_item l) (link_items ls)
+
 -- what is told of a release of locks behind a commit: nothing, or that it has failed
 abbrev pub release_fault : Bool → ItemValues
 release_fault fails = if fails then only (string (refusal_text refusals.StoreFailed)) else none
@@ -191,6 +203,7 @@ reply_item Done = word (codes "done")
 reply_item (Failure refusal) =
     failure (only (list (more (number (refusal_number refusal))
     (more (string (refusal_text refusal)) (both (string []) (number 0))))))
+reply_item (Failures links) = failure (link_items links)
 
 -- the bytes of replies
 abbrev pub print : List Reply → List ℕ

@@ -4,6 +4,7 @@
 mod build;
 mod contents;
 mod entries;
+mod failures;
 mod histories;
 mod laws;
 mod locks;
@@ -18,6 +19,7 @@ pub use entries::{
     DirectoryInfo, EntryList, FileInfo, NodeInfo, say_directory_end, say_directory_head, say_entry,
     say_file_info,
 };
+pub use failures::{FailureLink, FailureLinks};
 pub use histories::{
     ChangeList, LogEntry, LogFacts, LoggedChange, say_change, say_log_end, say_log_head,
 };

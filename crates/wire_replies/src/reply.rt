@@ -8,6 +8,7 @@ use crate::contents::TextPiece;
 use crate::entries::{
     DirectoryInfo, FileInfo, NodeInfo, directory_info_item, file_info_item, stat_item,
 };
+use crate::failures::{FailureLinks, failures_item};
 use crate::histories::{LogEntry, location_item, log_entry_item};
 use crate::locks::{LockList, lock_item, locks_item};
 use crate::properties::properties_item;
@@ -82,6 +83,8 @@ pub enum Reply {
     Done,
     /// The command is refused.
     Failure(Refusal),
+    /// A failure of these links.
+    Failures(FailureLinks),
 }
 
 impl Drop for Reply {
@@ -111,6 +114,7 @@ impl Drop for Reply {
             Reply::Edit(_) => {}
             Reply::Done => {}
             Reply::Failure(_) => {}
+            Reply::Failures(_) => {}
         }
     }
 }
@@ -171,6 +175,7 @@ impl Reply {
             Reply::Edit(command) => write_command(command, out),
             Reply::Done => out.extend_from_slice(b"done "),
             Reply::Failure(refusal) => write_made(refusal_item(alloc, *refusal), out),
+            Reply::Failures(links) => write_made(failures_item(alloc, links), out),
         }
     }
 }
