@@ -25,7 +25,7 @@ use Rattle.wire_replies.specs.{declared.reply.Reply.Reply, declared.reply.Reply.
 use Rattle.machine.specs.Answers.{Answer, Behind, behind, change_answer, ChangeStep, content_after, is_halt, IsOfChange, says, Step, Verdict}
 use Rattle.machine.specs.{Answers.Verdict.{NotWritten, Unknown, Written}, Commands.{asked_by, commit_begins, is_long_comment, lock_answer, lock_ask, lock_tokens}}
 use Rattle.machine.specs.Commands.{LockingStep, LockStep}
-use Rattle.machine.specs.{Commands.{login_request, OwnStep, PropertyStep, reparented, unlock_ask, UnlockStep}, Hearing.Input, Hearing.Input.{Broken, Whole}}
+use Rattle.machine.specs.{Commands.{DatingStep, login_request, OwnStep, PropertyStep, reparented, unlock_ask, UnlockStep}, Dates.is_refused_date, Hearing.Input, Hearing.Input.{Broken, Whole}}
 use Rattle.machine.specs.Logins.{ChallengeStep, ChoiceStep, chosen, greeting_answer, LoggedIn, LoginStep, offer, speaks, url_answer, wants_user, with_user}
 use Rattle.machine.specs.Machine.{CloseStep, CommandStep, commit_ask, CommitStep, CommittedStep, EditingStep, ending_of, InputStep, IsReleaseOf, JudgedEdit}
 use Rattle.machine.specs.Machine.{KnownCommand, MachineEdit, MainStep, Release, release_effect, release_fails, skipping_answer, unreleased_answer}
@@ -313,12 +313,17 @@ revises env c client ask accepted NotWritten of =
 revises env c client ask accepted (Unknown x) of =
     halts_at (IsAskedBy env client (ChangeRevProp ask)) true env c client (ChangesProperty ask) x (Success ∷ []) refl accepted of
 
+does_dating : (refused halted : Bool) (env : Env) (c : RepoState) (client : Client) (ask : PropertyAsk) (a : Answer)
+    → DatingStep refused env client ask halted c a → Does (IsAskedBy env client (ChangeRevProp ask)) true halted env c a
+does_dating true halted env c client ask a is = quiet a _ is (refl, refl, refl)
+does_dating false halted env c client ask a step =
+    does_change (IsAskedBy env client (ChangeRevProp ask)) true halted env c client (property_refusal c ask) (property_refusal c ask)
+    (ChangesProperty ask) (change_answer env client (ChangesProperty ask) (Success ∷ [])) a refl (revises env c client ask) step
+
 does_property : (may halted : Bool) (env : Env) (c : RepoState) (client : Client) (ask : PropertyAsk) (a : Answer)
     → PropertyStep may env client ask halted c a → Does (IsAskedBy env client (ChangeRevProp ask)) may halted env c a
 does_property false halted env c client ask a is = quiet a _ is (refl, refl, refl)
-does_property true halted env c client ask a step =
-    does_change (IsAskedBy env client (ChangeRevProp ask)) true halted env c client (property_refusal c ask) (property_refusal c ask)
-    (ChangesProperty ask) (change_answer env client (ChangesProperty ask) (Success ∷ [])) a refl (revises env c client ask) step
+does_property true halted env c client ask a step = does_dating (is_refused_date client.is_of_today ask) halted env c client ask a step
 
 -- ---- commands
 

@@ -14,7 +14,8 @@ use Rattle.wire_edits.specs.Editing.{ends_edit}
 use Rattle.machine.specs.{Hearing.Input, Hearing.Input.{Whole, Broken}, Answers.Verdict.{Written, NotWritten, Unknown}}
 use Rattle.machine.specs.{declared.login.OpenChallenge.OpenChallenge, Settings.Settings, Stages.Stage}
 use Rattle.machine.specs.{Answers.{Verdict, Answer, Step, says, change_answer, ChangeStep, behind, Behind}, Commands.{OwnStep, asked_by, lock_tokens}}
-use Rattle.machine.specs.Commands.{commit_begins, env_without_token, is_long_comment, lock_ask, unlock_ask, lock_answer, LockingStep, LockStep, UnlockStep, PropertyStep, reparented}
+use Rattle.machine.specs.Commands.{commit_begins, env_without_token, is_long_comment, lock_ask, unlock_ask, lock_answer, LockingStep, LockStep, UnlockStep, DatingStep, PropertyStep, reparented}
+use Rattle.machine.specs.Dates.{is_refused_date}
 use Rattle.machine.specs.{Commands.login_request, Reports.{drawn_answer, driven_answer}, Logins.{offer, chosen, wants_user, speaks, url_answer}}
 use Rattle.machine.specs.Logins.{greeting_answer, LoggedIn, ChoiceStep, LoginStep, with_user, OutcomeStep, ChallengeStep}
 use Rattle.machine.specs.{Machine.{InputStep, KnownCommand, MainStep, skipping_answer}, declared.commit_parameters.CommitParameters.CommitParameters}
@@ -146,12 +147,17 @@ quiet_unlock s halted env c client command (Ok path) a step =
     (λ v. quiet_change s env client (Unlocks ask) _ v refl) step
 quiet_unlock s halted env c client command (Err fault) a is = quiet_is s a _ is (plain s env client _)
 
+quiet_dating : (s : Settings) (refused halted : Bool) (env : Env) (c : RepoState) (client : Client) (ask : PropertyAsk) (a : Answer)
+    → DatingStep refused env client ask halted c a → IsQuiet s a
+quiet_dating s true halted env c client ask a is = quiet_is s a _ is (plain s env client _)
+quiet_dating s false halted env c client ask a step =
+    quiet_step s halted env client (property_refusal c ask) (ChangesProperty ask) (change_answer env client (ChangesProperty ask) (replies.Success ∷ [])) a
+    (λ v. quiet_change s env client (ChangesProperty ask) _ v refl) step
+
 quiet_property : (s : Settings) (may halted : Bool) (env : Env) (c : RepoState) (client : Client) (ask : PropertyAsk) (a : Answer)
     → PropertyStep may env client ask halted c a → IsQuiet s a
 quiet_property s false halted env c client ask a is = quiet_is s a _ is (plain s env client _)
-quiet_property s true halted env c client ask a step =
-    quiet_step s halted env client (property_refusal c ask) (ChangesProperty ask) (change_answer env client (ChangesProperty ask) (replies.Success ∷ [])) a
-    (λ v. quiet_change s env client (ChangesProperty ask) _ v refl) step
+quiet_property s true halted env c client ask a step = quiet_dating s (is_refused_date client.is_of_today ask) halted env c client ask a step
 
 -- ---- commands
 

@@ -21,7 +21,7 @@ use Rattle.drive_reports.specs.{Refusing.{ask_of, begun_report}, declared.ask.Dr
 use Rattle.drive_reports.specs.declared.ask.Purpose.TheVariants as purposes
 use Rattle.edit_rules.specs.Edits.{new_edit}
 use Rattle.machine.specs.{Settings.Settings, Answers.{Verdict, Answer, Step, says, serves, change_answer, ChangeStep, Always, Shows}}
-use Rattle.machine.specs.{Answers.Verdict.{Written, NotWritten, Unknown}, Histories.{all_joined, log_replies, locations_replies}}
+use Rattle.machine.specs.{Answers.Verdict.{Written, NotWritten, Unknown}, Dates.is_refused_date, Histories.{all_joined, log_replies, locations_replies}}
 use Rattle.machine.specs.{Readings.{place_read, file_replies, directory_reply, stat_reply, dated_reply, property_reply}, declared.env.Env.Env}
 use Rattle.machine.specs.{declared.commit_parameters.CommitParameters.CommitParameters, declared.phase.Phase.TheVariants.{Serving, Editing, Reporting}}
 use Rattle.machine.specs.{declared.comments.TheConstants.COMMENT_LIMIT, declared.phase.Client.Client}
@@ -206,11 +206,17 @@ RevisingStep env client ask halted c a =
     ChangeStep halted env client (property_refusal c ask) (ChangesProperty ask)
     (change_answer env client (ChangesProperty ask) (replies.Success ∷ [])) a
 
+-- a date that is refused, before the revision is judged
+abbrev pub DatingStep : Bool → Env → Client → PropertyAsk → Step
+DatingStep false env client ask = RevisingStep env client ask
+DatingStep true env client ask = Always (serves env client (replies.Failure refusals.NotADate))
+
 -- where clients may not change them it is refused, whatever else would be said of it
 abbrev pub PropertyStep : Bool → Env → Client → PropertyAsk → Step
 PropertyStep false env client ask =
     Always (serves env client (replies.Failure refusals.RevisionPropertiesClosed))
-PropertyStep true env client ask = RevisingStep env client ask
+PropertyStep true env client ask =
+    DatingStep (is_refused_date client.is_of_today ask) env client ask
 
 -- ---- another URL
 

@@ -5,6 +5,7 @@ pub mod Answers
 pub mod Readings
 pub mod Histories
 pub mod Reports
+pub mod Dates
 pub mod Commands
 pub mod Logins
 pub mod Machine

@@ -10,6 +10,7 @@ mod laws;
 mod login;
 mod options;
 mod phase;
+mod revision_dates;
 mod turn;
 
 pub use comments::{COMMENT_LIMIT, is_long_comment};
@@ -21,4 +22,5 @@ pub use laws::{one_hearing, steps_keep_trees, steps_rest};
 pub use login::{Mechanism, OpenChallenge, OpenLogin, chosen, offer};
 pub use options::{Options, is_repository_name};
 pub use phase::{Client, OpenEdit, OpenReporting, Phase};
+pub use revision_dates::is_refused_date;
 pub use turn::Turn;
