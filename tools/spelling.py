@@ -12,6 +12,7 @@ UUID = "00000000-0000-4000-8000-000000000000"
 MOMENT = 1_000_000
 
 TEXTS = {
+    125005: "not a date",
     160000: "store failed",
     160005: "bad path",
     160006: "no such revision",
@@ -47,6 +48,9 @@ EMPTY = b"( success ( ) ) "
 NOT_OFFERED = b"( failure ( 21:mechanism not offered ) ) "
 LOGIN_FAILED = b"( failure ( 12:login failed ) ) "
 DONE = b"done "
+
+# the capabilities of a client of today: it lists `mergeinfo`
+OF_TODAY = b"edit-pipeline svndiff1 absent-entries depth mergeinfo log-revprops "
 
 
 def string(content):
@@ -552,5 +556,13 @@ def login(url="svn://h/r", root="svn://h/r", name="r", uuid=UUID):
     """The exchanges up to the first command."""
     return [
         (greeting_answer(url), login_wanted(name)),
+        (ANONYMOUS, repository_told(root, uuid)),
+    ]
+
+
+def login_of_today(url="svn://h/r", root="svn://h/r", name="r", uuid=UUID):
+    """The same of a client of today."""
+    return [
+        (greeting_answer(url, capabilities=OF_TODAY), login_wanted(name)),
         (ANONYMOUS, repository_told(root, uuid)),
     ]
