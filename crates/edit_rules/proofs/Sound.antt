@@ -22,8 +22,8 @@ use Rattle.wire_edits.specs.{declared.editing.AddedEntry.AddedEntry, declared.ed
 use Rattle.wire_edits.specs.declared.editing.PropertyChange.{PropertyChange}
 use Rattle.edit_rules.specs.Tokens.{Tokens, with_token, without_token, with_change, opened_under, path_of, copies_under, closed_beneath}
 use Rattle.edit_rules.specs.{Edits.{EditState, standing, created, open_in, file_text}, Refusing.{unless, directory_refusal, add_refusal, age_refusal}}
-use Rattle.edit_rules.specs.Refusing.{file_refusal, place_refusal, source_of, room_refusal, source_refusal, adding_refusal, open_root_refusal, before_root}
-use Rattle.edit_rules.specs.Refusing.{delete_entry_refusal, add_entry_refusal, open_directory_refusal, open_file_refusal, begin_delta_refusal, edit_refusal}
+use Rattle.edit_rules.specs.Refusing.{file_refusal, opening_refusal, place_refusal, source_of, room_refusal, source_refusal, adding_refusal, open_root_refusal}
+use Rattle.edit_rules.specs.Refusing.{before_root, delete_entry_refusal, add_entry_refusal, open_directory_refusal, open_file_refusal, begin_delta_refusal, edit_refusal}
 use Rattle.edit_rules.specs.{Refusing.command_refusal, Editor.{OpensRoot, Edits, Named, Opens, opened_directory, copy_edit, added_edit, added_opened}}
 use Rattle.edit_rules.specs.Editor.{tokens_added, Adds, ChangesProperty, property_edit, unread, BeginsDelta, FeedsDelta, EndsDelta, Closes, Applies, RestsIn}
 use Rattle.edit_rules.specs.{Editor.RestsOn, Soundness.{StandsIn, IsSoundIn, IsSoundEdit, IsRightIn}, declared.opened.OpenedDirectory.OpenedDirectory}
@@ -76,7 +76,7 @@ not_refused false o e = e
 opens_directory : (old new : EditState) (entry : OpenedEntry) → IsSoundEdit old → open_directory_refusal old entry (joined old.path entry.path) ≡ None → Named old entry.path (λ p. Opens old entry.token (Directory (opened_directory p entry.revision (copies_under old.tokens entry.parent))) new) → IsSoundEdit new
 opens_directory old new entry sound none (p, named, is) =
     let here : open_directory_refusal old entry (Ok p) ≡ None = named_none (open_directory_refusal old entry) (joined old.path entry.path) p named none in
-    let kind = first_none (place_refusal old entry.parent entry.token p) (directory_refusal (standing old.txn p)) here in
+    let kind = first_none (opening_refusal old entry.parent entry.token p) (directory_refusal (standing old.txn p)) here in
     subst IsSoundEdit (sym is) (opened_directory_in old.path old.txn old.tokens entry.token (opened_directory p entry.revision (copies_under old.tokens entry.parent)) sound kind.1)
 
 opens_file : (old new : EditState) (entry : OpenedEntry) → IsSoundEdit old → open_file_refusal old entry (joined old.path entry.path) ≡ None → Named old entry.path (λ p. Opens old entry.token (File p NotBegun) new) → IsSoundEdit new

@@ -5,19 +5,26 @@ use Rattle.repo_api.specs.{Kinds.{created_in, kind_in, text_in}, States.TxnState
 use Rattle.repo_api.specs.declared.entry.NodeKind.TheVariants as kinds
 use Rattle.edit_rules.specs.{Tokens.{Tokens, opened_under}, declared.opened.Opened.Opened}
 
--- an edit: the path of its root, the repository's name, its transaction once the root is open, what
--- is open, and
--- whether a command was refused
+-- an edit: the path of its root, the repository's name, whether its client is one of today, its
+-- transaction once the root is open, what is open, and whether a command was refused
 pub record EditState : Type 0 where
   pub path : PathValue
   pub name : List ℕ
+  pub is_of_today : Bool
   pub txn : Option TxnState
   pub tokens : Tokens
   pub refused : Bool
 
 -- an edit that has heard nothing
-abbrev pub new_edit : PathValue → List ℕ → EditState
-new_edit path name = record { path = path; name = name; txn = None; tokens = []; refused = false }
+abbrev pub new_edit : PathValue → List ℕ → Bool → EditState
+new_edit path name is_of_today = record {
+  path = path;
+  name = name;
+  is_of_today = is_of_today;
+  txn = None;
+  tokens = [];
+  refused = false;
+}
 
 -- what stands at a path of the transaction, nothing where there is none
 abbrev pub standing : Option TxnState → PathValue → NodeKind
@@ -28,6 +35,11 @@ standing (Some t) p = kind_in t p
 abbrev pub created : Option TxnState → PathValue → Option ℕ
 created None p = None
 created (Some t) p = created_in t p
+
+-- the revision that the transaction began from
+abbrev pub base_in : Option TxnState → Option ℕ
+base_in None = None
+base_in (Some t) = Some t.base
 
 abbrev pub or_nothing : Option (List ℕ) → List ℕ
 or_nothing None = []

@@ -1,11 +1,11 @@
 -- Which commands of an edit are refused.
-use Rattle.std.specs.Prelude.{ℕ, ◌-◌, Bool, true, false, not, ◌&&◌, ◌||◌, ◌==◌, nat_le, is_some, List, length, Option, Some, None, Result, Ok, Err}
+use Rattle.std.specs.Prelude.{ℕ, ◌-◌, Bool, true, false, not, ◌&&◌, ◌||◌, ◌==◌, nat_le, is_some, List, [], length, Option, Some, None, Result, Ok, Err}
 use Rattle.std.specs.{Prelude.{if◌then◌else◌, codes}, List.starts_with}
 use Rattle.md5.specs.Md5.{md5}
 use Rattle.hex.specs.Hex.{encode_lower}
-use Rattle.svnpath.specs.{declared.component.TheConstants.DEPTH_LIMIT, Paths.PathValue, Texts.{joined, parsed, starts_with_slash}, Urls.path_of_text}
+use Rattle.svnpath.specs.{declared.component.TheConstants.DEPTH_LIMIT, Paths.{PathValue, same_path}, Texts.{joined, parsed, starts_with_slash}, Urls.path_of_text}
 use Rattle.svnpath.specs.declared.fault.PathFault.{PathFault}
-use Rattle.repo_api.specs.{Judging.{is_older, is_property_name}, Kinds.{has_deeper_at, is_present, kind_at}, States.{RepoState, TxnState, youngest}}
+use Rattle.repo_api.specs.{Judging.{is_older, is_property_name}, Kinds.{has_deeper_at, is_present, kind_at}, States.{RepoState, youngest}}
 use Rattle.repo_api.specs.{declared.change.Source.Source, declared.entry.NodeKind.NodeKind}
 use Rattle.refusals.specs.{Refusing.path_refusal, declared.Refusal.Refusal}
 use Rattle.refusals.specs.declared.Refusal.TheVariants as refusals
@@ -18,7 +18,8 @@ use Rattle.wire_edits.specs.declared.editing.EditorCommand.TheVariants.{ChangeDi
 use Rattle.wire_edits.specs.declared.editing.EditorCommand.TheVariants.{TextDeltaEnd, CloseDirectory, CloseFile, CloseEdit, AbortEdit}
 use Rattle.wire_edits.specs.{declared.editing.AddedEntry.AddedEntry, declared.editing.OpenedEntry.OpenedEntry, declared.editing.DeletedEntry.DeletedEntry}
 use Rattle.wire_edits.specs.declared.editing.AbsentEntry.{AbsentEntry}
-use Rattle.edit_rules.specs.{Tokens.{directory_of, copies_under, is_within, is_placed}, Edits.{EditState, standing, created, file_text, open_in}}
+use Rattle.edit_rules.specs.{Tokens.{directory_of, copies_under, is_within, is_placed, may_open, opened_under}, Edits.EditState}
+use Rattle.edit_rules.specs.Edits.{standing, created, base_in, file_text, open_in}
 use Rattle.edit_rules.specs.{declared.opened.Opened.Opened, declared.opened.Opened.TheVariants.{Directory, File}, declared.opened.DeltaState.DeltaState}
 use Rattle.edit_rules.specs.declared.opened.DeltaState.TheVariants as deltas
 
@@ -48,6 +49,15 @@ add_refusal kinds.Directory = Some refusals.AlreadyExists
 abbrev pub age_refusal : Option ℕ → Option ℕ → Option Refusal
 age_refusal revision made = unless (not (is_older revision made)) refusals.OutOfDate
 
+-- the change by which the properties of a directory are guarded: the last one at or under it; and
+-- for a client of today at the repository's root, of which every revision changes something, the base
+-- of the transaction, whatever that has changed
+abbrev pub guarding_change : Bool → PathValue → Option ℕ → Option ℕ → Option ℕ
+guarding_change is_of_today p base made = if is_of_today && same_path p [] then base else made
+
+abbrev pub created_for_guard : EditState → PathValue → Option ℕ
+created_for_guard e p = guarding_change e.is_of_today p (base_in e.txn) (created e.txn p)
+
 abbrev pub file_refusal : NodeKind → Option Refusal → Option Refusal
 file_refusal kinds.Absent age = Some refusals.NotFound
 file_refusal kinds.File age = age
@@ -64,6 +74,17 @@ delete_refusal kinds.Directory age = age
 abbrev pub place_refusal : EditState → List ℕ → List ℕ → PathValue → Option Refusal
 place_refusal e parent token p =
     unless (is_some e.txn && is_placed e.tokens parent token p) refusals.MalformedData
+
+-- the token is new, and a directory may be opened there
+abbrev pub is_opening : EditState → List ℕ → List ℕ → PathValue → Bool
+is_opening e parent token p =
+    not (is_some (opened_under e.tokens token))
+    && may_open e.is_of_today e.path (directory_of e.tokens parent) p
+
+-- so it is, and the root is open
+abbrev pub opening_refusal : EditState → List ℕ → List ℕ → PathValue → Option Refusal
+opening_refusal e parent token p =
+    unless (is_some e.txn && is_opening e parent token p) refusals.MalformedData
 
 -- the root is open, and the path is one name beneath its parent's directory
 abbrev pub parent_refusal : EditState → List ℕ → PathValue → Option Refusal
@@ -186,7 +207,7 @@ abbrev pub open_directory_refusal : EditState → OpenedEntry → Result PathVal
     → Option Refusal
 open_directory_refusal e entry (Err fault) = Some (path_refusal fault)
 open_directory_refusal e entry (Ok p) =
-    first (place_refusal e entry.parent entry.token p) (directory_refusal (standing e.txn p))
+    first (opening_refusal e entry.parent entry.token p) (directory_refusal (standing e.txn p))
 
 abbrev pub open_file_refusal : EditState → OpenedEntry → Result PathValue PathFault → Option Refusal
 open_file_refusal e entry (Err fault) = Some (path_refusal fault)
@@ -198,11 +219,11 @@ abbrev pub absent_refusal : EditState → AbsentEntry → Result PathValue PathF
 absent_refusal e entry (Err fault) = Some (path_refusal fault)
 absent_refusal e entry (Ok p) = parent_refusal e entry.parent p
 
-abbrev pub directory_property_refusal : Option TxnState → List ℕ → Option Opened → Option Refusal
-directory_property_refusal txn name (Some (Directory d)) =
-    first (name_refusal name) (age_refusal d.revision (created txn d.path))
-directory_property_refusal txn name (Some (File p delta)) = Some refusals.MalformedData
-directory_property_refusal txn name None = Some refusals.MalformedData
+abbrev pub directory_property_refusal : EditState → List ℕ → Option Opened → Option Refusal
+directory_property_refusal e name (Some (Directory d)) =
+    first (name_refusal name) (age_refusal d.revision (created_for_guard e d.path))
+directory_property_refusal e name (Some (File p delta)) = Some refusals.MalformedData
+directory_property_refusal e name None = Some refusals.MalformedData
 
 abbrev pub file_property_refusal : List ℕ → Option Opened → Option Refusal
 file_property_refusal name (Some (File p delta)) = name_refusal name
@@ -262,7 +283,7 @@ command_refusal c e (OpenFile entry) = open_file_refusal e entry (joined e.path 
 command_refusal c e (AbsentDirectory entry) = absent_refusal e entry (joined e.path entry.path)
 command_refusal c e (AbsentFile entry) = absent_refusal e entry (joined e.path entry.path)
 command_refusal c e (ChangeDirectoryProperty change) =
-    directory_property_refusal e.txn change.name (open_under e change.token)
+    directory_property_refusal e change.name (open_under e change.token)
 command_refusal c e (ChangeFileProperty change) =
     file_property_refusal change.name (open_under e change.token)
 command_refusal c e (ApplyTextDelta token checksum) =

@@ -3,7 +3,7 @@ use Rattle.std.specs.Prelude.{◌≡◌, ℕ, Bool, true, false, ◌+◌, ◌==�
 use Rattle.std.specs.Prelude.{Option, Some, None, option_and_then}
 use Rattle.std.specs.{List.{filter, list_any}, BTreeMap.{insert_entry, is_at}, Map.{lookup, remove_entry, set_value, values_of}}
 use Rattle.std.specs.{Cmp.Lexicographic.{slice_cmp, pointwise}, Ordering.nat_cmp}
-use Rattle.svnpath.specs.Paths.{is_at_or_under, PathValue}
+use Rattle.svnpath.specs.Paths.{is_at_or_under, PathValue, same_path}
 use Rattle.revision_data.specs.Found.{found}
 use Rattle.edit_rules.specs.{declared.opened.Opened.Opened, declared.opened.Opened.TheVariants.{Directory, File}, declared.opened.DeltaState.DeltaState}
 use Rattle.edit_rules.specs.declared.opened.DeltaState.TheVariants.{NotBegun, Reading, Ended}
@@ -83,6 +83,17 @@ is_within (Some directory) p = is_at_or_under p directory && (length p == length
 abbrev pub is_placed : Tokens → List ℕ → List ℕ → PathValue → Bool
 is_placed tokens parent token p =
     not (is_some (opened_under tokens token)) && is_within (directory_of tokens parent) p
+
+-- the path is the root, and so is that of a directory
+abbrev pub is_root_again : PathValue → Option PathValue → PathValue → Bool
+is_root_again root None p = false
+is_root_again root (Some directory) p = same_path directory root && same_path p root
+
+-- a directory may be opened at the path: one name beneath that of its parent; and for a client of
+-- today under a token of the edit's root, at the root itself
+abbrev pub may_open : Bool → PathValue → Option PathValue → PathValue → Bool
+may_open is_of_today root directory p =
+    is_within directory p || (is_of_today && is_root_again root directory p)
 
 -- ---- how what is at or under a path is found
 

@@ -1,9 +1,9 @@
 //! The rules by which a command of an edit is refused, each by itself.
 ghost use Rattle.std.specs.Prelude.{◌≡◌, option_copied};
 ghost use Rattle.svnpath.specs.{Components.AnswersPath, Texts.joined};
-ghost use Rattle.edit_rules.specs.{Tokens.is_within, Refusing.{add_refusal, age_refusal, delete_refusal, directory_refusal, file_refusal, is_reserved}};
-ghost use Rattle.edit_rules.specs.Refusing.{may_be_named, name_refusal, room_refusal, source_kind_refusal, source_of, source_path, unless};
-ghost use Rattle.edit_rules.specs.Judging.{Judges, Names};
+ghost use Rattle.edit_rules.specs.{Tokens.{is_root_again, is_within, may_open}, Refusing.{add_refusal, age_refusal, delete_refusal, directory_refusal}};
+ghost use Rattle.edit_rules.specs.Refusing.{file_refusal, guarding_change, is_reserved, may_be_named, name_refusal, room_refusal, source_kind_refusal};
+ghost use Rattle.edit_rules.specs.{Refusing.{source_of, source_path, unless}, Judging.{Judges, Names}};
 
 use byte_string::ByteString;
 use refusals::{NotDone, Refusal};
@@ -49,6 +49,23 @@ pub fn judge_age(revision: Option<u64>, made: Option<u64>) -> Result<(), NotDone
     ensures { Judges result (age_refusal revision made) }
 {
     judge(!is_older(revision, made), Refusal::OutOfDate)
+}
+
+/// Gives the change by which the properties of a directory are guarded, of its last one and the base of the
+/// transaction: the base for a client of today at the repository's root, and else the last one.
+pub fn guarding_change(
+    is_of_today: bool,
+    path: &Path,
+    base: Option<u64>,
+    made: Option<u64>,
+) -> Option<u64>
+    ensures { result ≡ guarding_change is_of_today path.now base made }
+{
+    if is_of_today && path.is_root() {
+        base
+    } else {
+        made
+    }
 }
 
 /// Checks that a file exists there, unchanged since the revision that the client has.
@@ -165,5 +182,23 @@ pub fn is_within(directory: Option<&Path>, path: &Path) -> bool
     match directory {
         None => false,
         Some(directory) => path.is_at_or_under(directory) && path.len() - directory.len() == 1,
+    }
+}
+
+/// Says whether a directory may be opened at the path: one name beneath that of its parent; and for a client of today
+/// under a token of the edit's root, at the root itself.
+pub fn may_open(is_of_today: bool, root: &Path, directory: Option<&Path>, path: &Path) -> bool
+    ensures { result ≡ may_open is_of_today root.now (option_copied directory.entry) path.now }
+{
+    is_within(directory, path) || (is_of_today && is_root_again(root, directory, path))
+}
+
+/// Says whether the path is the root, and so is that of a directory.
+fn is_root_again(root: &Path, directory: Option<&Path>, path: &Path) -> bool
+    ensures { result ≡ is_root_again root.now (option_copied directory.entry) path.now }
+{
+    match directory {
+        None => false,
+        Some(directory) => directory == root && path == root,
     }
 }

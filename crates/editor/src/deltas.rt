@@ -179,7 +179,7 @@ impl<R: Repository> CommitEditor<R> {
         let empty = FileText::empty();
         match &self.txn {
             None => judge_checksum(self.alloc, checksum, &empty),
-            Some(txn) => match repository.text_in(txn, path) {
+            Some(txn) => match repository.text_in(txn.as_txn(), path) {
                 None => judge_checksum(self.alloc, checksum, &empty),
                 Some(text) => judge_checksum(self.alloc, checksum, text),
             },

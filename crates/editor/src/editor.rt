@@ -1,8 +1,9 @@
 //! The editor of a commit.
 ghost use Rattle.std.specs.{Prelude.{◌≡◌, Ok, Err, None, OnOk, IfOk, IfErr, MatchResult, string_bytes}, Arc.arc_value};
-ghost use Rattle.edit_rules.specs.{Editor.{Applies, finished, given_up, NotApplied, RestsOn}, Edits.{created, file_text, new_edit, standing}};
+ghost use Rattle.edit_rules.specs.{Editor.{Applies, finished, given_up, NotApplied, RestsOn}, Edits.{base_in, created, file_text, new_edit, standing}};
 ghost use Rattle.edit_rules.specs.{Judging.{Judges, Leaves}, Refusing.{before_root, edit_refusal}, Soundness.{IsSoundEdit, IsSoundOn}};
 
+use crate::open_txn::OpenTxn;
 use crate::room::EDIT_LIMIT;
 use edit_rules::{OpenTokens, has_unfinished, judge};
 use refusals::{NotDone, Refusal};
@@ -18,7 +19,8 @@ pub struct CommitEditor<R: Repository> {
     pub(crate) alloc: Global,
     pub(crate) path: Path,
     pub(crate) name: String,
-    pub(crate) txn: Option<R::Txn>,
+    pub(crate) is_of_today: bool,
+    pub(crate) txn: Option<OpenTxn<R>>,
     pub(crate) tokens: OpenTokens,
     pub(crate) refused: bool,
     /// How many bytes of memory it may still take.
@@ -31,6 +33,7 @@ impl<R: Repository> Drop for CommitEditor<R> {
             alloc: _,
             path: _,
             name: _,
+            is_of_today: _,
             txn: _,
             tokens: _,
             refused: _,
@@ -40,7 +43,7 @@ impl<R: Repository> Drop for CommitEditor<R> {
 }
 
 impl<R: Repository> Model for CommitEditor<R> {
-    ghost use Rattle.std.specs.{Prelude.{option_map, string_bytes}, Coded.codes, FinMap.code as map_code};
+    ghost use Rattle.std.specs.{Prelude.string_bytes, Coded.codes, FinMap.code as map_code};
     ghost use Rattle.edit_rules.specs.Edits.{EditState};
 
     ghost Value = { EditState };
@@ -50,21 +53,23 @@ impl<R: Repository> Model for CommitEditor<R> {
     ghost view = { λ e. record {
       path = e.path;
       name = string_bytes e.name;
-      txn = option_map R.txn_state e.txn;
+      is_of_today = e.is_of_today;
+      txn = e.txn;
       tokens = e.tokens;
       refused = e.refused;
     } };
 }
 
 impl<R: Repository> CommitEditor<R> {
-    /// Makes an edit at this path of the repository of this name.
-    pub fn new(alloc: Global, path: Path, name: String) -> Self
-        ensures { result ≡ new_edit path (string_bytes name) }
+    /// Makes an edit at this path of the repository of this name, for a client of today or for another.
+    pub fn new(alloc: Global, path: Path, name: String, is_of_today: bool) -> Self
+        ensures { result ≡ new_edit path (string_bytes name) is_of_today }
     {
         CommitEditor {
             alloc,
             path,
             name,
+            is_of_today,
             txn: None,
             tokens: OpenTokens::new(alloc),
             refused: false,
@@ -160,7 +165,7 @@ impl<R: Repository> CommitEditor<R> {
     {
         match &self.txn {
             None => NodeKind::Absent,
-            Some(txn) => repository.kind_in(txn, path),
+            Some(txn) => repository.kind_in(txn.as_txn(), path),
         }
     }
 
@@ -171,7 +176,17 @@ impl<R: Repository> CommitEditor<R> {
     {
         match &self.txn {
             None => None,
-            Some(txn) => repository.created_in(txn, path),
+            Some(txn) => repository.created_in(txn.as_txn(), path),
+        }
+    }
+
+    /// Gives the revision that the transaction began from, `None` where there is no transaction.
+    pub(crate) fn base(&self) -> Option<u64>
+        ensures { result ≡ base_in self.now.txn }
+    {
+        match &self.txn {
+            None => None,
+            Some(txn) => Some(txn.base()),
         }
     }
 
@@ -187,7 +202,7 @@ impl<R: Repository> CommitEditor<R> {
         let empty = FileText::empty();
         match &self.txn {
             None => empty.share(self.alloc),
-            Some(txn) => match repository.text_in(txn, path) {
+            Some(txn) => match repository.text_in(txn.as_txn(), path) {
                 None => empty.share(self.alloc),
                 Some(text) => text.share(self.alloc),
             },
@@ -204,6 +219,7 @@ impl<R: Repository> CommitEditor<R> {
             alloc: _,
             path: _,
             name: _,
+            is_of_today: _,
             txn,
             tokens: _,
             refused,
@@ -212,7 +228,7 @@ impl<R: Repository> CommitEditor<R> {
         match txn {
             _ if refused => Err(Refusal::EditAborted),
             Some(_) if unfinished => Err(Refusal::MalformedData),
-            Some(txn) => Ok(txn),
+            Some(txn) => Ok(txn.into_txn()),
             None => Err(Refusal::MalformedData),
         }
     }

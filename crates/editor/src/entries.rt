@@ -4,15 +4,17 @@ ghost use Rattle.svnpath.specs.Texts.{joined};
 ghost use Rattle.edit_rules.specs.{Editor.{Adds, Closes, copy_edit, Edits, opened_directory, Opens, RestsOn}, Edits.standing};
 ghost use Rattle.edit_rules.specs.{Judging.{CarriesOut, CarriesOutAdding, DoneUnless, Judges}, Refusing.{absent_refusal, add_at_refusal, add_entry_refusal}};
 ghost use Rattle.edit_rules.specs.Refusing.{add_refusal, close_directory_refusal, delete_entry_refusal, first, open_directory_refusal, open_file_refusal};
-ghost use Rattle.edit_rules.specs.Refusing.{open_root_refusal, open_under, parent_refusal, place_refusal, source_of, source_refusal};
-ghost use Rattle.edit_rules.specs.{Soundness.{IsRightIn, IsSoundOn}, Tokens.{closed_beneath, copies_under, is_placed, is_within, opened_under, with_token}};
+ghost use Rattle.edit_rules.specs.Refusing.{is_opening, open_root_refusal, open_under, opening_refusal, parent_refusal, place_refusal, source_of};
+ghost use Rattle.edit_rules.specs.{Refusing.source_refusal, Soundness.{IsRightIn, IsSoundOn}};
+ghost use Rattle.edit_rules.specs.Tokens.{closed_beneath, copies_under, is_placed, is_within, opened_under, with_token};
 
 use crate::editor::CommitEditor;
+use crate::open_txn::OpenTxn;
 use byte_string::ByteString;
 use edit_rules::{
     DeltaState, Opened, OpenedDirectory, close_beneath, close_others_beneath, copies_under,
     directory_under, edits_are_right, is_within, judge, judge_absence, judge_directory, judge_file,
-    judge_presence, judge_room, judge_source_kind, path_named, source_named,
+    judge_presence, judge_room, judge_source_kind, may_open, path_named, source_named,
 };
 use refusals::{NotDone, Refusal};
 use repo_api::{EditOp, NodeKind, Repository, Source};
@@ -112,7 +114,7 @@ impl<R: Repository> CommitEditor<R> {
         self.judge_root(repository)?;
         let token = token.clone()?;
         let path = self.path.clone()?;
-        let txn = repository.begin()?;
+        let txn = OpenTxn::begin(repository)?;
         self.tokens
             .insert(token, opened_directory(path, revision, false))?;
         self.txn = Some(txn);
@@ -307,7 +309,7 @@ impl<R: Repository> CommitEditor<R> {
         let Some(txn) = &mut self.txn else {
             unreachable!();
         };
-        repository.edit(txn, op)
+        txn.edit(op, repository)
     }
 
     /// Deletes an entry, and closes what is open at or under it.
@@ -380,8 +382,8 @@ impl<R: Repository> CommitEditor<R> {
         Ok(())
     }
 
-    /// Checks that the token is new, that the path is beneath its parent's directory, and that a directory exists there
-    /// in the transaction.
+    /// Checks that the token is new, that a directory may be opened at the path, and that one exists there in the
+    /// transaction.
     fn judge_open_directory(
         &self,
         entry: &OpenedEntry,
@@ -391,7 +393,7 @@ impl<R: Repository> CommitEditor<R> {
         requires { RestsOn self.now (R.content repository.now) }
         ensures { Judges result (open_directory_refusal self.now entry.now (Ok path.now)) }
     {
-        self.judge_place(&entry.parent, &entry.token, path)?;
+        self.judge_opening(&entry.parent, &entry.token, path)?;
         judge_directory(self.standing(path, repository))?;
         Ok(())
     }
@@ -483,6 +485,33 @@ impl<R: Repository> CommitEditor<R> {
     {
         let placed = self.txn.is_some() && self.is_placed(parent, token, path);
         judge(placed, Refusal::MalformedData)
+    }
+
+    /// Checks that the root is open, that the token is new, and that a directory may be opened at the path by the
+    /// parent's token. Anything else is refused with `MalformedData`.
+    fn judge_opening(
+        &self,
+        parent: &ByteString,
+        token: &ByteString,
+        path: &Path,
+    ) -> Result<(), NotDone>
+        ensures { Judges result (opening_refusal self.now parent.now token.now path.now) }
+    {
+        let opening = self.txn.is_some() && self.is_opening(parent, token, path);
+        judge(opening, Refusal::MalformedData)
+    }
+
+    /// Says whether the token is new, and a directory may be opened at the path by the parent's token.
+    fn is_opening(&self, parent: &ByteString, token: &ByteString, path: &Path) -> bool
+        ensures { result ≡ is_opening self.now parent.now token.now path.now }
+    {
+        self.tokens.get(token).is_none()
+            && may_open(
+                self.is_of_today,
+                &self.path,
+                directory_under(&self.tokens, parent),
+                path,
+            )
     }
 
     /// Checks that the root is open, and that the path is one name beneath the directory open under the parent's token.

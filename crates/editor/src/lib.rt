@@ -4,6 +4,7 @@
 mod deltas;
 mod editor;
 mod entries;
+mod open_txn;
 mod properties;
 mod room;
 

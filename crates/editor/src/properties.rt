@@ -1,11 +1,12 @@
 //! Properties of entries.
 ghost use Rattle.std.specs.Prelude.{◌≡◌, Some, IfOk};
 ghost use Rattle.edit_rules.specs.{Editor.{property_edit, RestsOn}, Judging.{CarriesOut, Judges}};
-ghost use Rattle.edit_rules.specs.{Refusing.{directory_property_refusal, file_property_refusal, open_under}, Soundness.IsSoundOn, Tokens.path_of};
+ghost use Rattle.edit_rules.specs.{Refusing.{created_for_guard, directory_property_refusal, file_property_refusal, open_under}, Soundness.IsSoundOn};
+ghost use Rattle.edit_rules.specs.Tokens.{path_of};
 
 use crate::editor::CommitEditor;
 use byte_string::ByteString;
-use edit_rules::{Opened, edits_are_right, judge_age, judge_name};
+use edit_rules::{Opened, edits_are_right, guarding_change, judge_age, judge_name};
 use refusals::{NotDone, Refusal};
 use repo_api::{EditOp, Repository};
 use std::alloc::AllocError;
@@ -37,7 +38,7 @@ impl<R: Repository> CommitEditor<R> {
         repository: &R,
     ) -> Result<EditOp, NotDone>
         requires { RestsOn self.now (R.content repository.now) }
-        ensures judged { Judges result (directory_property_refusal self.now.txn change.now.name
+        ensures judged { Judges result (directory_property_refusal self.now change.now.name
             (open_under self.now token.now)) }
         ensures op { IfOk result (λ op. (o : Opened) × (open_under self.now token.now ≡ Some o)
             × (op ≡ property_edit (path_of o) change.now.name change.now.value)) }
@@ -47,13 +48,26 @@ impl<R: Repository> CommitEditor<R> {
                 judge_name(change.name.as_slice())?;
                 judge_age(
                     directory.revision,
-                    self.created(&directory.path, repository),
+                    self.created_for_guard(&directory.path, repository),
                 )?;
                 Ok(self.property_edit(&directory.path, change)?)
             }
             Some(Opened::File(_, _)) => Err(NotDone::Refused(Refusal::MalformedData)),
             None => Err(NotDone::Refused(Refusal::MalformedData)),
         }
+    }
+
+    /// Gives the change by which the properties of the directory at a path are guarded.
+    fn created_for_guard(&self, path: &Path, repository: &R) -> Option<u64>
+        requires { RestsOn self.now (R.content repository.now) }
+        ensures { result ≡ created_for_guard self.now path.now }
+    {
+        guarding_change(
+            self.is_of_today,
+            path,
+            self.base(),
+            self.created(path, repository),
+        )
     }
 
     /// Changes a property of a file.

@@ -95,7 +95,7 @@ sound_made : (client : Client) (fails : Bool) → EditIsSound (if fails then End
 sound_made client true = tt
 sound_made client false = tt
 
-module _ (begins : (path : PathValue) (name : List ℕ) → IsSoundEdit (new_edit path name))
+module _ (begins : (path : PathValue) (name : List ℕ) (is_of_today : Bool) → IsSoundEdit (new_edit path name is_of_today))
     (goes_on : (c : RepoState) (old new : EditState) (command : EditorCommand) → AreSound c.revisions → RestsOn old c → IsSoundEdit old → edit_refusal c old command ≡ None → Applies c old command new → IsSoundEdit new)
     (meets : (c : RepoState) (ask : CommitAsk) (t : TxnState) → AreMarked (trees_in c.revisions) → IsTree (trees_in c.revisions (youngest c))
     → IsBeginning t.shown c.revisions → IsMarkedTxn t → IsTree (tree_of t.tree)
@@ -108,7 +108,7 @@ module _ (begins : (path : PathValue) (name : List ℕ) → IsSoundEdit (new_edi
   sound_new s (LoggingIn login) new = tt
   sound_new s (Challenged pending) new = tt
   sound_new s (Serving client) new = tt
-  sound_new s (Editing edit) new = subst IsSoundEdit (sym new) (begins edit.client.path s.name)
+  sound_new s (Editing edit) new = subst IsSoundEdit (sym new) (begins edit.client.path s.name edit.client.is_of_today)
   sound_new s (Skipping client) new = tt
   sound_new s (Reporting reporting) new = tt
   sound_new s (Driven client) new = tt

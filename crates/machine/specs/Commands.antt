@@ -128,7 +128,11 @@ asked_by command (Ok tokens) =
 -- an edit begins, or is refused in its place
 abbrev pub commit_begins : Settings → Env → Client → Result CommitParameters Refusal → Answer
 commit_begins s env client (Ok asked) =
-    says env (Editing (record { client = client; asked = asked; editor = new_edit client.path s.name })) (replies.Success ∷ [])
+    says env (Editing (record {
+      client = client;
+      asked = asked;
+      editor = new_edit client.path s.name client.is_of_today;
+    })) (replies.Success ∷ [])
 commit_begins s env client (Err r) = serves env client (replies.Failure r)
 
 -- ---- locks

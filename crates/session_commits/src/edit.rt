@@ -27,7 +27,6 @@ use session_replies::{
 };
 use std::alloc::{AllocError, Global};
 use std::mem::drop;
-use svnpath::Path;
 use wire_edits::EditorCommand;
 use wire_forms::CommandFault;
 use wire_replies::{Reply, ReplySink, say_both};
@@ -36,12 +35,14 @@ use wire_replies::{Reply, ReplySink, say_both};
 fn new_editor<R: Repository>(
     alloc: Global,
     options: &Options,
-    path: &Path,
+    client: &Client,
 ) -> Result<CommitEditor<R>, AllocError>
-    ensures { Makes result (new_edit path.now options.now.name) }
+    ensures { let client = client.now in
+        Makes result (new_edit client.path options.now.name client.is_of_today) }
 {
     let name = String::from_str(alloc, options.name())?;
-    Ok(CommitEditor::new(alloc, path.clone()?, name))
+    let path = client.path.clone()?;
+    Ok(CommitEditor::new(alloc, path, name, client.is_of_today))
 }
 
 /// Opens an edit, once its client is answered that it may begin.
@@ -68,7 +69,7 @@ pub fn begin_edit<R: Repository, S: ReplySink>(
         (asked_by command.now (lock_tokens client.path command.now.tokens))) }
 {
     match asked_by(turn.alloc, &client.path, command) {
-        Ok(asked) => match new_editor(turn.alloc, options, &client.path) {
+        Ok(asked) => match new_editor(turn.alloc, options, &client) {
             Ok(editor) => open_edit(
                 OpenEdit {
                     client,

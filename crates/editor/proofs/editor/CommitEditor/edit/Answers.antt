@@ -1,5 +1,4 @@
 use Rattle.std.proofs.Common.{ap}
-use Rattle.std.specs.Prelude.{option_map}
 use Rattle.edit_rules.specs.Edits.{EditState}
 use Rattle.editor.proofs.Steps.{on_ok, made}
 use Rattle.editor.proofs.editor.CommitEditor.edit.Goals as goal
@@ -7,5 +6,5 @@ use Rattle.editor.proofs.editor.CommitEditor.edit.Goals as goal
 pub returns-clause-ok : goal.returns-clause-ok
 returns-clause-ok g c =
     on_ok _ c.edit.result
-    (λ e. made (g.R.Repository.content c.args.repository.now) _ c.args.self.now c.args.op _ _ _ _ c.self.view_is (ap (option_map g.R.Repository.txn_state) c.in-Some.is) e (ap (λ (s : EditState). s.tokens) c.self.view_is))
+    (λ e. made (g.R.Repository.content c.args.repository.now) _ c.args.self.now c.args.op _ _ _ _ c.self.view_is c.in-Some.is e (ap (λ (s : EditState). s.tokens) c.self.view_is))
     c.edit.ensures
