@@ -22,7 +22,7 @@ pub const FEW: usize = 1_024;
 pub const MANY: usize = 200_000;
 
 /// How many items there may be in a command of a client that has logged in as a user.
-pub const MOST: usize = 800_000;
+pub const MOST: usize = 650_000;
 
 /// Gives how many bytes an item may have that is not whole yet. A command may have two long strings, since clients
 /// send the message of a commit twice, before they are asked to log in.
