@@ -1,4 +1,4 @@
-use Rattle.std.proofs.lemmas.Result.{err_from_is_err_and}
+use Rattle.std.proofs.{Common.{◌∙◌, sym}, lemmas.Result.err_from_is_err_and}
 use Rattle.wire_replies.proofs.Parts.{part_none}
 use Rattle.session_reads.proofs.directories.say_dir.Goals as goal
 
@@ -6,3 +6,6 @@ pub returns-in_err-place : goal.returns-in_err-place
 returns-in_err-place g c =
     let p = err_from_is_err_and c.from_residual.result c.from_residual.ensures.1 in
     rw (p.1) (part_none _ _ (g.met.S.ReplySink.nothing _))
+
+pub returns-in-Err : goal.returns-in-Err
+returns-in-Err g c = rw (sym c.in_ok-place.ensures ∙ c.in-Err.is) c.tell_refusal.ensures
