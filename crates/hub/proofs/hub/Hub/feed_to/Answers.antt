@@ -1,7 +1,12 @@
-use Rattle.std.proofs.Common.{◌≡◌, ℕ, List, None, false, refl, sym, subst, ◌∙◌}
+use Rattle.std.proofs.Common.{◌≡◌, ℕ, List, None, true, false, refl, sym, subst, ◌∙◌}
 use Rattle.machine.specs.Stages.{SessionState}
 use Rattle.hub_runs.specs.State.{Finds, HubState, session_of}
 use Rattle.hub.proofs.hub.Hub.feed_to.Goals as goal
+
+pub returns-then-is_halted : goal.returns-then-is_halted
+returns-then-is_halted g c =
+    let halted = subst (λ (h : HubState). h.halted ≡ true) c.self.view_is (sym c.is_halted.ensures ∙ c.if-is_halted.true) in
+    ((halted, refl), g.met.S.ReplySink.nothing _)
 
 pub returns-in_default : goal.returns-in_default
 returns-in_default g c =
