@@ -1,5 +1,9 @@
 //! What the program is asked for.
-ghost use Rattle.std.specs.Prelude.{◌≡◌, ◌⊎◌};
+ghost use Rattle.std.specs.Prelude.{◌≡◌, ◌≤◌, ◌⊎◌};
+ghost use Rattle.command_line.specs.declared.order.TheConstants.{SESSION_LIMIT};
+
+/// How many sessions over TCP there may be at a time at most.
+pub const SESSION_LIMIT: u64 = 1_024;
 
 /// Where a repository is.
 #[derive(Debug, Drop)]
@@ -10,18 +14,22 @@ pub enum Location {
     Folder(String),
 }
 
-/// Sessions over TCP: the repository of this name, where to listen, the file of users, how many sessions the clients of
-/// one address may have at a time, whether clients may change the properties of revisions, and whether nothing is told on
-/// standard error but a fault.
+/// Sessions over TCP: the repository of this name, where to listen, the file of users, how many sessions there may be at a
+/// time, and how many of them the clients of one address may have, whether clients may change the properties of revisions,
+/// and whether nothing is told on standard error but a fault.
 #[derive(Debug, Drop)]
 pub struct Service {
     pub location: Location,
     pub listen: String,
     pub name: String,
     pub users: String,
+    pub sessions: u64,
     pub per_address: u64,
     pub revprops: bool,
     pub quiet: bool,
+    ghost served: { 1 ≤ per_address },
+    ghost placed: { per_address ≤ sessions },
+    ghost bounded: { sessions ≤ SESSION_LIMIT },
 }
 
 /// Which format a new repository is of.

@@ -34,6 +34,9 @@ pub(crate) const LISTEN: &str = "listen";
 /// The argument that names the file of users.
 pub(crate) const USERS: &str = "users";
 
+/// The argument that says how many sessions there may be at a time.
+pub(crate) const SESSIONS: &str = "sessions";
+
 /// The argument that says how many sessions the clients of one address may have.
 pub(crate) const PER_ADDRESS: &str = "per-address";
 
@@ -108,13 +111,23 @@ fn users_argument<'a>(alloc: Global) -> Arg<'a> {
     )
 }
 
+/// Makes the argument that says how many sessions there may be at a time.
+fn sessions_argument<'a>(alloc: Global) -> Arg<'a> {
+    optional_argument(
+        alloc,
+        SESSIONS,
+        "COUNT",
+        "How many sessions there may be at a time, 1 to 1024; without it 16",
+    )
+}
+
 /// Makes the argument that says how many sessions the clients of one address may have.
 fn per_address_argument<'a>(alloc: Global) -> Arg<'a> {
     optional_argument(
         alloc,
         PER_ADDRESS,
         "COUNT",
-        "How many sessions one address may have at a time, 1 to 16; without it 16",
+        "How many of them one address may have, 1 to all; without it all",
     )
 }
 
@@ -172,15 +185,16 @@ fn stdio_command<'a>(alloc: Global) -> Result<Command<'a>, AllocError> {
         .arg(revprops_argument(alloc))
 }
 
-/// Makes the command `serve DIR --listen ADDRESS:PORT --name NAME --users FILE [--per-address COUNT] [--revprops]
-/// [--quiet]`.
+/// Makes the command `serve DIR --listen ADDRESS:PORT --name NAME --users FILE [--sessions COUNT] [--per-address COUNT]
+/// [--revprops] [--quiet]`.
 fn serve_command<'a>(alloc: Global) -> Result<Command<'a>, AllocError> {
     Command::new(alloc, SERVE)
-        .about("Serves up to 16 clients at a time over TCP, at svn://HOST:PORT/NAME")
+        .about("Serves many clients at a time over TCP, at svn://HOST:PORT/NAME")
         .arg(folder_argument(alloc, "The repository's folder, as `create` makes it"))?
         .arg(listen_argument(alloc))?
         .arg(name_argument(alloc))?
         .arg(users_argument(alloc))?
+        .arg(sessions_argument(alloc))?
         .arg(per_address_argument(alloc))?
         .arg(revprops_argument(alloc))?
         .arg(quiet_argument(alloc))

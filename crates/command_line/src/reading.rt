@@ -1,17 +1,20 @@
 //! How a command line is read.
+ghost use Rattle.std.specs.Prelude.{◌≡◌, IfOk, IfSome, MatchOption, Some};
+ghost use Rattle.command_line.specs.Counts.{IsCount, IsWithin};
+ghost use Rattle.command_line.specs.declared.order.TheConstants.{SESSION_LIMIT};
 
 use crate::fault::CommandLineFault;
-use crate::order::{Location, NewFormat, Order, Service};
+use crate::order::{Location, NewFormat, Order, SESSION_LIMIT, Service};
 use crate::program::{
-    CREATE, FOLDER, FORMAT, LISTEN, MIGRATE, NAME, NEW, PER_ADDRESS, QUIET, REVPROPS, SERVE, USERS,
-    program,
+    CREATE, FOLDER, FORMAT, LISTEN, MIGRATE, NAME, NEW, PER_ADDRESS, QUIET, REVPROPS, SERVE,
+    SESSIONS, USERS, program,
 };
 use clap::error::ErrorKind;
 use clap::{ArgMatches, Error};
 use std::alloc::Global;
 
-/// How many sessions one address may have at a time where nothing is said of it: as many as there are.
-const SESSIONS: u64 = 16;
+/// How many sessions there may be at a time where nothing is said of it.
+const USUAL_SESSIONS: u64 = 16;
 
 /// The folder that stands for an empty repository in memory.
 const IN_MEMORY: &str = "-";
@@ -126,15 +129,61 @@ fn stdio_order(alloc: Global, matches: &ArgMatches<'_>) -> Result<Order, Command
     })
 }
 
-/// Says how many sessions one address may have at a time.
-fn per_address_of(alloc: Global, matches: &ArgMatches<'_>) -> Result<u64, CommandLineFault> {
-    let Some(text) = matches.get_str(PER_ADDRESS) else {
-        return Ok(SESSIONS);
-    };
-    match text.parse::<u64>() {
-        Ok(count) if count >= 1 && count <= SESSIONS => Ok(count),
-        _ => Err(bad(alloc, "error: COUNT of --per-address is 1 to 16\n")),
+/// Reads a count from 1 to so many; none where the word is no such count.
+fn read_count(word: &str, most: u64) -> Option<u64>
+    ensures said { IfSome result (IsCount word.now) }
+    ensures within { IfSome result (IsWithin most) }
+{
+    match word.parse::<u64>() {
+        Ok(count) if count >= 1 && count <= most => Some(count),
+        _ => None,
     }
+}
+
+/// Gives the count from 1 to so many that a word is; without a word the usual one.
+fn count_or_usual(word: Option<&str>, most: u64, usual: u64) -> Option<u64>
+    requires { IsWithin most usual }
+    ensures said { MatchOption word.entry (result ≡ Some usual) (λ w. IfSome result (IsCount w.now)) }
+    ensures within { IfSome result (IsWithin most) }
+{
+    match word {
+        Some(word) => read_count(word, most),
+        None => Some(usual),
+    }
+}
+
+/// Makes the fault of an argument that is no count from 1 to so many.
+fn bad_count(alloc: Global, name: &str, most: u64) -> CommandLineFault {
+    match format!(in alloc; "error: COUNT of --{name} is 1 to {most}\n") {
+        Ok(text) => CommandLineFault::Bad(text),
+        Err(_) => CommandLineFault::NoMemory,
+    }
+}
+
+/// Gives the count from 1 to so many that an argument says; without it the usual one.
+fn count_of(
+    alloc: Global,
+    matches: &ArgMatches<'_>,
+    name: &str,
+    most: u64,
+    usual: u64,
+) -> Result<u64, CommandLineFault>
+    requires { IsWithin most usual }
+    ensures { IfOk result (IsWithin most) }
+{
+    match count_or_usual(matches.get_str(name), most, usual) {
+        Some(count) => Ok(count),
+        None => Err(bad_count(alloc, name, most)),
+    }
+}
+
+/// Says how many sessions there may be at a time, and how many of them one address may have.
+fn counts_of(alloc: Global, matches: &ArgMatches<'_>) -> Result<(u64, u64), CommandLineFault>
+    ensures { IfOk result (λ counts. IsWithin SESSION_LIMIT counts.0 × IsWithin counts.0 counts.1) }
+{
+    let sessions = count_of(alloc, matches, SESSIONS, SESSION_LIMIT, USUAL_SESSIONS)?;
+    let per_address = count_of(alloc, matches, PER_ADDRESS, sessions, sessions)?;
+    Ok((sessions, per_address))
 }
 
 /// Makes the order that the arguments of `serve` give.
@@ -143,12 +192,13 @@ fn serve_order(alloc: Global, matches: &ArgMatches<'_>) -> Result<Order, Command
     let listen = value_of(alloc, matches, LISTEN)?;
     let name = value_of(alloc, matches, NAME)?;
     let users = value_of(alloc, matches, USERS)?;
-    let per_address = per_address_of(alloc, matches)?;
+    let (sessions, per_address) = counts_of(alloc, matches)?;
     Ok(Order::Serve(Service {
         location,
         listen,
         name,
         users,
+        sessions,
         per_address,
         revprops: matches.get_flag(REVPROPS),
         quiet: matches.get_flag(QUIET),

@@ -28,13 +28,14 @@ fn served(rt: &impl Abort, alloc: Global, service: &Service) -> String {
         listen,
         name,
         users,
+        sessions,
         per_address,
         revprops,
         quiet,
     } = service;
     let location = located(location);
     let text = format!(in alloc;
-        "serve {location} {listen} {name} {users} {per_address} {revprops} {quiet}"
+        "serve {location} {listen} {name} {users} {sessions} {per_address} {revprops} {quiet}"
     );
     text.expect(rt, "memory")
 }
@@ -83,7 +84,7 @@ fn is_asked(rt: &impl Abort, alloc: Global, line: &str, wanted: &str) -> bool {
     is_order(rt, alloc, &read(rt, alloc, line), wanted)
 }
 
-static LINES: [(&str, &str); 19] = [
+static LINES: [(&str, &str); 22] = [
     ("svnserved stdio - --name r", "stdio in memory r false"),
     ("svnserved stdio --name=r -", "stdio in memory r false"),
     (
@@ -105,15 +106,27 @@ static LINES: [(&str, &str); 19] = [
     ),
     (
         "svnserved serve - --listen 127.0.0.1:3690 --name r --users file",
-        "serve in memory 127.0.0.1:3690 r file 16 false false",
+        "serve in memory 127.0.0.1:3690 r file 16 16 false false",
     ),
     (
         "svnserved serve --quiet --users=file --revprops --name=r --listen=0.0.0.0:1 folder",
-        "serve folder 0.0.0.0:1 r file 16 true true",
+        "serve folder 0.0.0.0:1 r file 16 16 true true",
     ),
     (
         "svnserved serve - --listen 127.0.0.1:1 --per-address 4 --name r --users file",
-        "serve in memory 127.0.0.1:1 r file 4 false false",
+        "serve in memory 127.0.0.1:1 r file 16 4 false false",
+    ),
+    (
+        "svnserved serve - --listen 127.0.0.1:1 --sessions 40 --name r --users file",
+        "serve in memory 127.0.0.1:1 r file 40 40 false false",
+    ),
+    (
+        "svnserved serve - --listen 127.0.0.1:1 --per-address 1024 --sessions=1024 --name r --users file",
+        "serve in memory 127.0.0.1:1 r file 1024 1024 false false",
+    ),
+    (
+        "svnserved serve - --listen 127.0.0.1:1 --sessions 1 --per-address 1 --name r --users file",
+        "serve in memory 127.0.0.1:1 r file 1 1 false false",
     ),
     ("svnserved --help", "help"),
     ("svnserved create --help", "help"),
@@ -132,7 +145,7 @@ fn reads_what_is_asked_for(rt: HostRuntime) {
     assert!(rt; are_read);
 }
 
-static OTHER_LINES: [&str; 41] = [
+static OTHER_LINES: [&str; 49] = [
     "svnserved",
     "svnserved stdio",
     "svnserved stdio -",
@@ -171,6 +184,14 @@ static OTHER_LINES: [&str; 41] = [
     "svnserved serve - --listen 127.0.0.1:1 --name r --users file --per-address 0",
     "svnserved serve - --listen 127.0.0.1:1 --name r --users file --per-address 17",
     "svnserved serve - --listen 127.0.0.1:1 --name r --users file --per-address many",
+    "svnserved serve - --listen 127.0.0.1:1 --name r --users file --sessions 40 --per-address 41",
+    "svnserved serve - --listen 127.0.0.1:1 --name r --users file --sessions 8 --per-address 16",
+    "svnserved serve - --listen 127.0.0.1:1 --name r --users file --sessions 0",
+    "svnserved serve - --listen 127.0.0.1:1 --name r --users file --sessions 1025",
+    "svnserved serve - --listen 127.0.0.1:1 --name r --users file --sessions -1",
+    "svnserved serve - --listen 127.0.0.1:1 --name r --users file --sessions many",
+    "svnserved serve - --listen 127.0.0.1:1 --name r --users file --sessions ",
+    "svnserved stdio - --name r --sessions 16",
     "svnserved other - --name r",
     "svnserved serve --version",
     "svnserved --version=1",
