@@ -7,7 +7,7 @@ use crate::refusing::turn_away;
 use crate::registry::Registry;
 use crossbeam_channel::Sender;
 use refusals::Refusal;
-use session_pool::{Admission, MAX_SESSIONS, SessionPool};
+use session_pool::{Admission, SessionPool};
 use std::alloc::Global;
 use std::collections::VecDeque;
 use std::net::{IpAddr, SocketAddr, TcpListener, TcpStream};
@@ -79,10 +79,15 @@ struct Acceptor<'s, 'e, R, H: Drop> {
 }
 
 impl<'s, 'e, R: Wait + Clock, H: Halts + Drop> Acceptor<'s, 'e, R, H> {
+    /// Says whether one address may not have all sessions.
+    fn has_limit(&self) -> bool {
+        self.entrance.per_address < self.entrance.registry.sessions()
+    }
+
     /// Says whether an address has as many sessions as it may have, where it may not have all.
     fn is_full(&self, address: IpAddr) -> bool {
         let limit = self.entrance.per_address;
-        limit < MAX_SESSIONS && self.entrance.registry.sessions_of(address) >= limit
+        self.has_limit() && self.entrance.registry.sessions_of(address) >= limit
     }
 
     /// Counts the sessions of an address and its clients that wait for a place.
@@ -98,11 +103,10 @@ impl<'s, 'e, R: Wait + Clock, H: Halts + Drop> Acceptor<'s, 'e, R, H> {
 
     /// Says how long a client of an address may wait for a place, in milliseconds; none where its address has too many.
     fn patience_for(&self, address: IpAddr) -> Option<u64> {
-        let limit = self.entrance.per_address;
-        if limit >= MAX_SESSIONS {
+        if !self.has_limit() {
             return Some(WAIT_LIMIT);
         }
-        let count = self.count_of(address);
+        let (count, limit) = (self.count_of(address), self.entrance.per_address);
         if count < limit {
             Some(WAIT_LIMIT)
         } else if count == limit {

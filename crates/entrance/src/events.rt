@@ -1,6 +1,5 @@
 //! What an administrator is told.
 
-use crate::limits::FILES_NEEDED;
 use guests::Ending;
 use std::alloc::{AllocError, Global};
 use std::net::SocketAddr;
@@ -25,8 +24,8 @@ pub enum Event {
     UsersReadable,
     /// The file of users can be written by others than its owner and its group.
     UsersWritable,
-    /// So many files may be open at a time, which are fewer than the server needs.
-    FewFiles(u64),
+    /// So many files may be open at a time, and so many are needed, which are more.
+    FewFiles(u64, u64),
 }
 
 /// Writes why a session is ended.
@@ -51,8 +50,8 @@ fn warning_text(alloc: Global, what: &str) -> Result<String, AllocError> {
 }
 
 /// Writes that too few files may be open.
-fn few_files_text(alloc: Global, files: u64) -> Result<String, AllocError> {
-    format!(in alloc; "warning: {files} files may be open at a time, and {FILES_NEEDED} are needed")
+fn few_files_text(alloc: Global, files: u64, needed: u64) -> Result<String, AllocError> {
+    format!(in alloc; "warning: {files} files may be open at a time, and {needed} are needed")
 }
 
 impl Event {
@@ -74,7 +73,7 @@ impl Event {
             }
             Event::UsersReadable => warning_text(alloc, "others can read the file of users"),
             Event::UsersWritable => warning_text(alloc, "others can write the file of users"),
-            Event::FewFiles(files) => few_files_text(alloc, files),
+            Event::FewFiles(files, needed) => few_files_text(alloc, files, needed),
         }
     }
 }

@@ -14,5 +14,5 @@ mod registry;
 pub use accepting::{Entrance, Halts, MAX_WAITING, take_all};
 pub use clients::{Client, ClientInput, ClientOutput};
 pub use events::Event;
-pub use limits::{FILES_NEEDED, too_few_files};
+pub use limits::too_few_files;
 pub use registry::Registry;

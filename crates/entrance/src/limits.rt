@@ -2,13 +2,13 @@
 ghost use Rattle.std.specs.Prelude.{◌≤◌, IfOk, length};
 
 use crate::accepting::MAX_WAITING;
-use session_pool::MAX_SESSIONS;
+use crate::events::Event;
 use std::fs::{File, Files};
 use std::io::{self, Read};
 
-/// How many files the server has open at most: the standard streams, the listener, the lock of the folder, one for each session
-/// and for each client that waits for a place, a connection that is judged, and a file that is written.
-pub const FILES_NEEDED: u64 = 3 + 2 + MAX_SESSIONS + MAX_WAITING as u64 + 2;
+/// How many files the server has open at most but for those of sessions: the standard streams, the listener, the lock of the
+/// folder, one for each client that waits for a place, a connection that is judged, and a file that is written.
+const OTHER_FILES: u64 = 3 + 2 + MAX_WAITING as u64 + 2;
 
 /// The file in which the system tells a process of its limits.
 const LIMITS: &str = "/proc/self/limits";
@@ -33,10 +33,21 @@ fn files_of(limits: &str) -> Option<u64> {
     None
 }
 
-/// Gives how many files the process may have open, if that is known and fewer than the server needs.
-pub fn too_few_files<R: Files>(rt: &R) -> Option<u64> {
+/// Gives how many files the process may have open, if that is known.
+fn most_files<R: Files>(rt: &R) -> Option<u64> {
     let mut room = [0; 4096];
     let count = read_beginning(rt, LIMITS, &mut room).ok()?;
     let limits = str::from_utf8(&room[..count]).ok()?;
-    files_of(limits).filter(|files| *files < FILES_NEEDED)
+    files_of(limits)
+}
+
+/// Says that the process may have fewer files open than the server needs for so many sessions, where that is known.
+pub fn too_few_files<R: Files>(rt: &R, sessions: u64) -> Option<Event> {
+    let needed = sessions.saturating_add(OTHER_FILES);
+    let files = most_files(rt)?;
+    if files < needed {
+        Some(Event::FewFiles(files, needed))
+    } else {
+        None
+    }
 }

@@ -1,15 +1,12 @@
 //! What sessions await, noted without a lock.
 
-use guests::{Awaited, Guests};
+use guests::{Awaited, Guest, Guests};
 use std::alloc::Global;
 use std::sync::atomic::{AtomicU64, Ordering};
 
-/// How many sessions have a place here at a time, at most.
-const PLACES: u64 = 64;
-
-/// How many sessions that begin one after another have places far from each other, so that their threads wait for no
-/// memory of another.
-const ROWS: u64 = 16;
+/// How many places are next to each other, in memory that one processor takes at a time. Sessions that begin one after
+/// another have theirs in other rows, so that their threads wait for no memory of another.
+const OF_A_ROW: u64 = 4;
 
 /// In a note: the session waits for its client.
 const WAITS: u64 = 1;
@@ -30,9 +27,10 @@ struct Place {
 }
 
 /// What sessions await: each notes it at the place of its number, in its own thread. A session has none whose place
-/// another has.
+/// another has. There are as many rows of places as there may be sessions.
 #[derive(Drop)]
 pub(crate) struct Notes {
+    rows: u64,
     places: Vec<Place>,
 }
 
@@ -58,21 +56,21 @@ fn awaited_of(note: u64) -> Awaited {
     }
 }
 
-/// Tells what a session has noted.
-fn tell_one(guests: &mut Guests, session: u64, note: u64) {
+/// Tells a guest what its session has noted.
+fn tell_guest(guest: &mut Guest, note: u64) {
     if note & HAS_SENT != 0 {
-        guests.hears(session);
+        guest.hears();
     }
     if note & WAITS != 0 {
-        guests.awaits(session, awaited_of(note), note >> MOMENT_ABOVE);
+        guest.awaits(awaited_of(note), note >> MOMENT_ABOVE);
     }
 }
 
 impl Notes {
-    /// Makes places that no session has; fewer where memory is refused.
-    pub(crate) fn new(alloc: Global) -> Self {
+    /// Makes places for so many sessions, which none has; fewer where memory is refused.
+    pub(crate) fn new(alloc: Global, sessions: u64) -> Self {
         let mut places = Vec::new(alloc);
-        for _ in 0..PLACES {
+        for _ in 0..sessions.saturating_mul(OF_A_ROW) {
             let place = Place {
                 session: AtomicU64::new(0),
                 note: AtomicU64::new(0),
@@ -81,13 +79,18 @@ impl Notes {
                 break;
             }
         }
-        Notes { places }
+        Notes {
+            rows: sessions,
+            places,
+        }
     }
 
     /// Finds the place of a number.
     fn place_of(&self, session: u64) -> Option<&Place> {
-        let (row, more) = (session % ROWS, session / ROWS % (PLACES / ROWS));
-        self.places.get((row * (PLACES / ROWS) + more) as usize)
+        let row = session.checked_rem(self.rows)?;
+        let turn = session.checked_div(self.rows)? % OF_A_ROW;
+        let place = row.saturating_mul(OF_A_ROW).saturating_add(turn);
+        self.places.get(place as usize)
     }
 
     /// Finds the place of a session, if it has it.
@@ -137,11 +140,31 @@ impl Notes {
         true
     }
 
-    /// Tells what was noted.
-    pub(crate) fn tell(&self, guests: &mut Guests) {
-        for place in &self.places {
-            let session = place.session.load(Ordering::SeqCst);
-            tell_one(guests, session, place.note.load(Ordering::SeqCst));
+    /// Gives the note of a session, 0 where it has none.
+    fn note_of(&self, session: u64) -> u64 {
+        match self.own(session) {
+            Some(place) => place.note.load(Ordering::SeqCst),
+            None => 0,
+        }
+    }
+
+    /// Tells what a session has noted.
+    pub(crate) fn tell(&self, guests: &mut Guests, session: u64) {
+        let note = self.note_of(session);
+        if note & HAS_SENT != 0 {
+            guests.hears(session);
+        }
+        if note & WAITS != 0 {
+            guests.awaits(session, awaited_of(note), note >> MOMENT_ABOVE);
+        }
+    }
+
+    /// Tells what all sessions have noted.
+    pub(crate) fn tell_all(&self, guests: &mut Guests) {
+        let all = guests.all();
+        for place in 0..all.len() {
+            let note = self.note_of(all[place].session);
+            tell_guest(&mut all[place], note);
         }
     }
 }

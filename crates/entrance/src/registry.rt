@@ -5,7 +5,7 @@ use crate::events::Event;
 use crate::notes::Notes;
 use guests::{Awaited, Ending, Guests};
 use journals::Journal;
-use session_pool::{Gate, MAX_SESSIONS, TalkFault, Watch};
+use session_pool::{Gate, TalkFault, Watch};
 use std::alloc::{AllocError, Global};
 use std::io::Eprint;
 use std::net::{IpAddr, SocketAddr};
@@ -22,6 +22,8 @@ pub struct Registry<'a, R> {
     rt: &'a R,
     alloc: Global,
     journal: Journal<'a, R>,
+    /// How many sessions there may be at a time.
+    sessions: u64,
     told_of_halt: AtomicBool,
     /// Until when some session reads nothing, at the latest.
     rests_until: AtomicU64,
@@ -36,6 +38,7 @@ impl<'a, R> Drop for Registry<'a, R> {
             rt: _,
             alloc: _,
             journal: _,
+            sessions: _,
             told_of_halt: _,
             rests_until: _,
             notes: _,
@@ -53,15 +56,16 @@ fn number_of(address: IpAddr) -> u32 {
 }
 
 impl<'a, R> Registry<'a, R> {
-    /// Makes a registry of no sessions, which tells of them in a journal.
-    pub fn new(rt: &'a R, alloc: Global, journal: Journal<'a, R>) -> Self {
+    /// Makes a registry of no sessions, where there may be so many, which tells of them in a journal.
+    pub fn new(rt: &'a R, alloc: Global, journal: Journal<'a, R>, sessions: u64) -> Self {
         Registry {
             rt,
             alloc,
             journal,
+            sessions,
             told_of_halt: AtomicBool::new(false),
             rests_until: AtomicU64::new(0),
-            notes: Notes::new(alloc),
+            notes: Notes::new(alloc, sessions),
             guests: Mutex::new(Guests::new(alloc)),
         }
     }
@@ -69,6 +73,11 @@ impl<'a, R> Registry<'a, R> {
     /// Says whether nothing is told.
     pub fn is_quiet(&self) -> bool {
         self.journal.is_quiet()
+    }
+
+    /// Says how many sessions there may be at a time.
+    pub(crate) fn sessions(&self) -> u64 {
+        self.sessions
     }
 
     /// Gives the runtime.
@@ -127,11 +136,15 @@ impl<'a, R: Clock + Wait> Registry<'a, R> {
         self.guests.lock(self.rt).rest_of(session, now)
     }
 
-    /// Says why a session is to end now, if it is, by what all have noted.
+    /// Says why a session is to end now, if it is, by what it has noted; and by what all have noted, where that matters:
+    /// where it may give its place up to a client that waits.
     fn ending_of(&self, session: u64, now: u64) -> Option<Ending> {
         let mut guests = self.guests.lock(self.rt);
-        self.notes.tell(&mut guests);
-        guests.ending_of(session, MAX_SESSIONS as usize, now)
+        self.notes.tell(&mut guests, session);
+        if guests.may_give_place(session, now) {
+            self.notes.tell_all(&mut guests);
+        }
+        guests.ending_of(session, self.sessions as usize, now)
     }
 
     /// Says whether a session is to end because its client sends nothing, and tells why.

@@ -41,15 +41,19 @@ impl Guest {
         }
     }
 
-    /// Gives the guest as it is once its session awaits this from its client.
-    pub(crate) fn awaiting(self, awaited: Awaited, now: u64) -> Self {
-        let goes_on = is_of_login(self.awaited) || !is_of_login(awaited);
-        Guest {
-            awaited,
-            is_waiting: true,
-            since: now,
-            login_since: if goes_on { self.login_since } else { now },
-            ..self
+    /// Notes what its session awaits from its client from a moment on.
+    pub fn awaits(&mut self, awaited: Awaited, now: u64) {
+        if is_of_login(awaited) && !is_of_login(self.awaited) {
+            self.login_since = now;
         }
+        self.awaited = awaited;
+        self.is_waiting = true;
+        self.since = now;
+    }
+
+    /// Notes that its client has sent something, so that its session does not wait for it.
+    pub fn hears(&mut self) {
+        self.is_waiting = false;
+        self.has_sent = true;
     }
 }

@@ -7,7 +7,7 @@ use crate::guest::Guest;
 use crate::silence::{Ending, ending_at, is_ready_at};
 use std::alloc::{AllocError, Global};
 
-/// All sessions that are open, and how many clients wait for a place of theirs.
+/// All sessions that are open, in the order of their numbers, and how many clients wait for a place of theirs.
 pub struct Guests {
     present: Vec<Guest>,
     wanted: usize,
@@ -26,12 +26,10 @@ impl Drop for Guests {
 fn place_of(present: &[Guest], session: u64) -> Option<usize>
     ensures { IfSome result (λ place. place < length present.now) }
 {
-    for place in 0..present.len() {
-        if present[place].session == session {
-            return Some(place);
-        }
+    match present.binary_search_by_key(&session, |guest| guest.session) {
+        Ok(place) => Some(place),
+        Err(_) => None,
     }
-    None
 }
 
 /// Counts the guests of an address.
@@ -101,7 +99,7 @@ impl Guests {
         count_of(self.present.as_slice(), address)
     }
 
-    /// Notes that a session of an address begins.
+    /// Notes that a session of an address begins, whose number is above those of all others.
     pub fn come(&mut self, session: u64, address: u32, now: u64) -> Result<(), AllocError> {
         let guest = Guest::new(session, address, now);
         self.present.push(guest).map_err(AllocError::from)
@@ -110,24 +108,35 @@ impl Guests {
     /// Notes that a session has ended.
     pub fn go(&mut self, session: u64) {
         if let Some(place) = place_of(self.present.as_slice(), session) {
-            self.present.swap_remove(place);
+            self.present.remove(place);
         }
     }
 
     /// Notes what a session awaits from now on.
     pub fn awaits(&mut self, session: u64, awaited: Awaited, now: u64) {
         if let Some(place) = place_of(self.present.as_slice(), session) {
-            let guest = self.present[place];
-            self.present[place] = guest.awaiting(awaited, now);
+            self.present[place].awaits(awaited, now);
         }
     }
 
     /// Notes that the client of a session has sent something, so that the session does not wait for it.
     pub fn hears(&mut self, session: u64) {
         if let Some(place) = place_of(self.present.as_slice(), session) {
-            let guest = &mut self.present[place];
-            guest.is_waiting = false;
-            guest.has_sent = true;
+            self.present[place].hears();
+        }
+    }
+
+    /// Gives all guests.
+    pub fn all(&mut self) -> &mut [Guest] {
+        self.present.as_mut_slice()
+    }
+
+    /// Says whether a session gives its place up as soon as it is the one that has been silent longest, since a client waits
+    /// for a place.
+    pub fn may_give_place(&self, session: u64, now: u64) -> bool {
+        match place_of(self.present.as_slice(), session) {
+            Some(place) => self.wanted > 0 && is_ready_at(now, &self.present[place]),
+            None => false,
         }
     }
 

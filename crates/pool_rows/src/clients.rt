@@ -7,7 +7,6 @@ use filed_world::FiledWorld;
 use machine::Options;
 use published::{Naming, NewHistory};
 use serving::{Server, Settings, serve_connections};
-use session_pool::MAX_SESSIONS;
 use std::alloc::Global;
 use std::io::{Eprint, Print, Read, Write};
 use std::marker::Brand;
@@ -27,7 +26,9 @@ enum Clients {
     Commit,
     /// As many are open as may be while another comes, and then one leaves.
     Fill,
-    /// The same, where one address may have three sessions.
+    /// The same, where there may be five sessions.
+    FillFew,
+    /// The same, where one address may have three of sixteen.
     FillAddress,
 }
 
@@ -37,15 +38,24 @@ impl Clients {
         match self {
             Clients::Commit => 2,
             Clients::Fill => 18,
+            Clients::FillFew => 7,
             Clients::FillAddress => 5,
+        }
+    }
+
+    /// Says how many sessions there may be.
+    fn sessions(self) -> u64 {
+        match self {
+            Clients::FillFew => 5,
+            Clients::Commit | Clients::Fill | Clients::FillAddress => 16,
         }
     }
 
     /// Says how many sessions one address may have.
     fn per_address(self) -> u64 {
         match self {
-            Clients::Commit | Clients::Fill => MAX_SESSIONS,
             Clients::FillAddress => 3,
+            Clients::Commit | Clients::Fill | Clients::FillFew => self.sessions(),
         }
     }
 }
@@ -167,7 +177,9 @@ fn come_all<R: Abort + Net<Stream = TcpStream>>(
 ) {
     match clients {
         Clients::Commit => commit_two(rt, address),
-        Clients::Fill | Clients::FillAddress => fill(rt, alloc, address, clients.per_address()),
+        Clients::Fill | Clients::FillFew | Clients::FillAddress => {
+            fill(rt, alloc, address, clients.per_address())
+        }
     }
 }
 
@@ -185,7 +197,8 @@ where
 {
     let (rt, alloc) = (server.rt, server.alloc);
     let stored = empty_repository(rt, alloc);
-    let desks = desks_at::<R, FiledWorld, MemoryStore, J>(rt, alloc, stored, history);
+    let sessions = server.settings.sessions;
+    let desks = desks_at::<R, FiledWorld, MemoryStore, J>(rt, alloc, stored, history, sessions);
     serve_connections(server, listener, count, desks).expect(rt, "all threads");
 }
 
@@ -199,6 +212,7 @@ where
     let settings = Settings {
         options: Options::new(alloc, "r").expect(rt, "memory"),
         address: SocketAddrV4::new(Ipv4Addr::LOCALHOST, 0),
+        sessions: clients.sessions(),
         per_address: clients.per_address(),
         is_exposed: false,
         is_writable: false,
@@ -247,6 +261,11 @@ fn a_client_commits_while_another_is_inside_its_commit(rt: HostRuntime) {
 #[test]
 fn the_seventeenth_is_turned_away(rt: HostRuntime) {
     serve_clients::<Brand, HostRuntime>(&rt, rt.alloc(), Clients::Fill, NewHistory::new());
+}
+
+#[test]
+fn the_sixth_of_five_is_turned_away(rt: HostRuntime) {
+    serve_clients::<Brand, HostRuntime>(&rt, rt.alloc(), Clients::FillFew, NewHistory::new());
 }
 
 #[test]

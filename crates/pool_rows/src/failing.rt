@@ -4,7 +4,7 @@ use crate::connections::{AT_ZERO, Call, Client, GREETING, LOGIN, NEVER, WELCOME,
 use crate::repositories::{empty_repository, work_alone};
 use conversations::{OpenGate, Unwatched};
 use machine::Options;
-use session_pool::{Admission, MAX_SESSIONS, SessionPool};
+use session_pool::{Admission, SessionPool};
 use std::sync::Wait;
 
 const LATEST: &[u8] = b"( get-latest-rev ( ) ) ";
@@ -27,8 +27,8 @@ fn is_filled<R: Wait>(rt: &R, pool: &OpenPool<'_>, first: u64, last: u64) -> boo
 fn a_client_that_takes_no_byte_leaves_its_place_to_the_next(rt: HostRuntime) {
     let alloc = rt.alloc();
     let options = Options::new(alloc, "r").expect(&rt, "memory");
-    let pool = SessionPool::new(&options, &OpenGate, &Unwatched);
-    let is_full = is_filled(&rt, &pool, 1, MAX_SESSIONS);
+    let pool = SessionPool::new(&options, &OpenGate, &Unwatched, 16);
+    let is_full = is_filled(&rt, &pool, 1, 16);
     let (first, second) = (
         Client::new(&rt, alloc, NEVER),
         Client::new(&rt, alloc, NEVER),

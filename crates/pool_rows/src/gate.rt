@@ -141,7 +141,7 @@ where
     requires { history.seen.book ≡ J.book }
 {
     let options = Options::new(alloc, "r").expect(rt, "memory");
-    let pool = SessionPool::new(&options, gate, &Unwatched);
+    let pool = SessionPool::new(&options, gate, &Unwatched, 2);
     let calls = [
         Call {
             pieces: &[OPEN, REST],
@@ -156,7 +156,7 @@ where
     ];
     let from = callers(rt, alloc, &calls);
     let stored = empty_repository(rt, alloc);
-    let (_, desks) = desks_at::<R, FiledWorld, MemoryStore, J>(rt, alloc, stored, history);
+    let (_, desks) = desks_at::<R, FiledWorld, MemoryStore, J>(rt, alloc, stored, history, 2);
     serve_in_threads(rt, alloc, &pool, &from, desks);
 }
 

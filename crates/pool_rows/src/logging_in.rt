@@ -58,6 +58,7 @@ fn settings<R: Abort + Runtime>(rt: &R, alloc: Global) -> Settings {
         listen: text("127.0.0.1:0"),
         name: text("r"),
         users: text("guests"),
+        sessions: 16,
         per_address: 16,
         revprops: false,
         quiet: true,

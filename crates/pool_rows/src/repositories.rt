@@ -59,12 +59,13 @@ pub(crate) fn work_alone<F: SoundTrees, S: Store, G: Gate, W: Watch, R: Wait>(
     pool.serve_at(rt, alloc, callers, (stored, envs));
 }
 
-/// Makes the desks of a repository that is shared, with what is shared.
+/// Makes so many desks of a repository that is shared, with what is shared.
 pub(crate) fn desks_at<'r, R, F, S, J>(
     rt: &'r R,
     alloc: Global,
     stored: StoredRepository<F, S>,
     history: NewHistory,
+    sessions: u64,
 ) -> Desks<'r, R, F, S, J>
 where
     R: Abort + Clock + RandomSource + Wait,
@@ -75,5 +76,5 @@ where
     ensures { All (λ d. AreSound (content_of (point_of d.seat)).revisions) result.1.items }
 {
     stored.repository().trees_are_sound();
-    desks_of::<R, F, S, J>(rt, alloc, stored, history).expect(rt, "desks")
+    desks_of::<R, F, S, J>(rt, alloc, stored, history, sessions).expect(rt, "desks")
 }

@@ -48,6 +48,7 @@ fn is_told<R: Abort + Runtime>(
         listen: text(rt, alloc, listen),
         name: text(rt, alloc, name),
         users: text(rt, alloc, users),
+        sessions: 16,
         per_address: 16,
         revprops: false,
         quiet: true,

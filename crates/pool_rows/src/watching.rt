@@ -85,7 +85,7 @@ fn logins_and_ends_are_told(rt: HostRuntime) {
         given_up: AtomicU64::new(0),
         ended: AtomicU64::new(0),
     };
-    let pool = SessionPool::new(&options, &OpenGate, &counts);
+    let pool = SessionPool::new(&options, &OpenGate, &counts, 16);
     let (alice, nobody) = (
         Client::new(&rt, alloc, NEVER),
         Client::new(&rt, alloc, NEVER),

@@ -13,7 +13,7 @@ use crossbeam_channel::Receiver;
 use entrance::{Client, Halts, Registry};
 use filed_archive::{FiledArchive, ServedRepo, ServedSeat, share};
 use published::{Naming, NewHistory, Published, Setting, Shown};
-use session_pool::{MAX_SESSIONS, SessionPool};
+use session_pool::SessionPool;
 use sharedrepo::{LockedChanges, SeatAccess};
 use std::alloc::Global;
 use std::random::RandomSource;
@@ -156,7 +156,7 @@ where
     Ok(desks)
 }
 
-/// Lets sessions share a repository, and makes a desk for each that may be open at a time.
+/// Lets so many sessions share a repository at a time, and makes a desk for each.
 ///
 /// # Errors
 ///
@@ -166,6 +166,7 @@ pub fn desks_of<'r, R, F, S, J>(
     alloc: Global,
     stored: StoredRepository<F, S>,
     history: NewHistory,
+    sessions: u64,
 ) -> Result<Desks<'r, R, F, S, J>, ServingFault>
 where
     R: Clock + RandomSource + Wait,
@@ -177,7 +178,7 @@ where
     ensures { IfOk result (λ desks. All (λ d. AreSound (content_of (point_of d.seat)).revisions)
         desks.1.items) }
 {
-    let (repository, seats) = share::<F, S, J>(alloc, stored, MAX_SESSIONS as usize, history)?;
+    let (repository, seats) = share::<F, S, J>(alloc, stored, sessions as usize, history)?;
     let shared = SharedFiles {
         repository: Arc::new(alloc, repository)?,
     };

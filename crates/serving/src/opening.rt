@@ -28,7 +28,7 @@ impl Opening for Silent {
 pub(crate) struct Aloud<'a, P> {
     pub(crate) rt: &'a P,
     pub(crate) listener: &'a TcpListener,
-    pub(crate) too_few_files: Option<u64>,
+    pub(crate) too_few_files: Option<Event>,
 }
 
 impl<'a, P: Eprint> Aloud<'a, P> {
@@ -43,8 +43,8 @@ impl<'a, P: Eprint> Aloud<'a, P> {
 
 impl<'a, P: Print + Eprint> Opening for Aloud<'a, P> {
     fn tell<R: Eprint + Clock>(&self, registry: &Registry<'_, R>) -> Result<(), ServingFault> {
-        if let Some(files) = self.too_few_files {
-            registry.tell_first(Event::FewFiles(files));
+        if let Some(event) = self.too_few_files {
+            registry.tell_first(event);
         }
         if !registry.is_quiet() {
             self.tell_address();

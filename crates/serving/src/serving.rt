@@ -115,7 +115,8 @@ where
 {
     let (sender, callers) = unbounded::<Client<'e, R>, Global>(entrance.alloc)?;
     let options = &server.settings.options;
-    let pool = SessionPool::new(options, &entrance.registry, &entrance.registry);
+    let registry = &entrance.registry;
+    let pool = SessionPool::new(options, registry, registry, server.settings.sessions);
     let way = Way {
         sender,
         callers: &callers,
@@ -191,7 +192,7 @@ where
         listener,
         connections,
         per_address: server.settings.per_address,
-        registry: Registry::new(rt, alloc, journal),
+        registry: Registry::new(rt, alloc, journal, server.settings.sessions),
         repository,
     };
     tell_of_users(server.settings, &entrance.registry);
@@ -266,7 +267,7 @@ where
     let opening = Aloud {
         rt: server.rt,
         listener: &listener,
-        too_few_files: too_few_files(server.rt),
+        too_few_files: too_few_files(server.rt, server.settings.sessions),
     };
     let arrivals = Arrivals {
         listener: &listener,

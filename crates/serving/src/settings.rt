@@ -15,12 +15,14 @@ use std::net::SocketAddrV4;
 use std::os::unix::fs::PermissionsExt;
 use std::rt::Runtime;
 
-/// What sessions are served by: the options of the repository, where to listen, how many sessions one address may have,
-/// whether others can read the file of users, whether they can write it, and whether nothing is told on standard error.
+/// What sessions are served by: the options of the repository, where to listen, how many sessions there may be at a time, and
+/// how many of them one address may have, whether others can read the file of users, whether they can write it, and whether
+/// nothing is told on standard error.
 #[derive(Drop)]
 pub struct Settings {
     pub options: Options,
     pub address: SocketAddrV4,
+    pub sessions: u64,
     pub per_address: u64,
     pub is_exposed: bool,
     pub is_writable: bool,
@@ -89,19 +91,21 @@ fn mode_of<R: Files>(rt: &R, file: &str) -> u32 {
     }
 }
 
-/// Reads what sessions are to be served by: the name that was asked for, the users that a file says, and whether the
-/// properties of revisions may be changed. A faulty name is told first, then a faulty address, then what is wrong with the
-/// file of users.
+/// Reads what sessions are to be served by: the name that was asked for, the users that a file says, whether the properties
+/// of revisions may be changed, and how many sessions there may be. A faulty name is told first, then a faulty address, then
+/// what is wrong with the file of users.
 pub fn read_settings<R: Runtime>(
     rt: &R,
     alloc: Global,
     service: &Service,
 ) -> Result<Settings, ServingFault>
-    ensures { IfOk result (λ s. (bytes : List ℕ) × AreRight (file_lines bytes) × (s.options ≡ record {
+    ensures options { IfOk result (λ s. (bytes : List ℕ) × AreRight (file_lines bytes) × (s.options ≡ record {
       name = string_bytes service.now.name;
       users = Some (logins_of (file_lines bytes));
       revprops = service.now.revprops;
     })) }
+    ensures counts { IfOk result (λ s. (s.sessions ≡ service.now.sessions)
+        × (s.per_address ≡ service.now.per_address)) }
 {
     if !is_repository_name(service.name.as_str()) {
         return Err(ServingFault::Name);
@@ -112,6 +116,7 @@ pub fn read_settings<R: Runtime>(
     Ok(Settings {
         options: options_of(alloc, service, users)?,
         address,
+        sessions: service.sessions,
         per_address: service.per_address,
         is_exposed: mode & OTHERS_READ != 0,
         is_writable: mode & OTHERS_WRITE != 0,

@@ -3,14 +3,15 @@ ghost use Rattle.std.specs.Prelude.{◌-◌, true, false};
 ghost use Rattle.session_pool.specs.Places.{IsAdmitted, StateIs};
 
 use crate::admission::Admission;
-use crate::places::{MAX_SESSIONS, Places};
+use crate::places::Places;
 
 impl Places {
-    /// Makes the places: all are free, and there was no session yet.
-    pub(crate) fn new() -> Places
-        ensures { StateIs result 0 0 false }
+    /// Makes so many places: all are free, and there was no session yet.
+    pub(crate) fn new(most: u64) -> Places
+        ensures { StateIs result most 0 0 false }
     {
         Places {
+            most,
             taken: 0,
             begun: 0,
             halted: false,
@@ -24,7 +25,7 @@ impl Places {
         if self.halted {
             return Admission::Halted;
         }
-        if self.taken >= MAX_SESSIONS {
+        if self.taken >= self.most {
             return Admission::Full;
         }
         self.taken += 1;
@@ -34,14 +35,14 @@ impl Places {
 
     /// Gives a place back.
     pub(crate) fn leave(&mut self)
-        ensures { StateIs self.new (self.old.taken - 1) self.old.begun self.old.halted }
+        ensures { StateIs self.new self.old.most (self.old.taken - 1) self.old.begun self.old.halted }
     {
         self.taken = self.taken.saturating_sub(1);
     }
 
     /// Lets no session begin any more.
     pub(crate) fn halt(&mut self)
-        ensures { StateIs self.new self.old.taken self.old.begun true }
+        ensures { StateIs self.new self.old.most self.old.taken self.old.begun true }
     {
         self.halted = true;
     }

@@ -10,5 +10,4 @@ mod pool;
 pub use admission::Admission;
 pub use attendant::{Attendant, Caller};
 pub use conversations::{Env, EnvSource, Gate, TalkFault, Watch};
-pub use places::MAX_SESSIONS;
 pub use pool::SessionPool;

@@ -38,15 +38,15 @@ impl<'p, G: Gate, W: Watch> SessionPool<'p, G, W> {
     ghost use Rattle.repo_api.specs.Soundness.{AreSound};
     ghost use Rattle.session_pool.specs.Serving.{ServesInTurn, settings_of, stand, stands};
 
-    /// Makes a pool in which no session is open.
-    pub fn new(options: &'p Options, gate: &'p G, watch: &'p W) -> Self
+    /// Makes a pool of so many places, in which no session is open.
+    pub fn new(options: &'p Options, gate: &'p G, watch: &'p W, sessions: u64) -> Self
         ensures { settings_of result ≡ options.now }
     {
         SessionPool {
             options,
             gate,
             watch,
-            places: Mutex::new(Places::new()),
+            places: Mutex::new(Places::new(sessions)),
         }
     }
 

@@ -38,7 +38,8 @@ where
     requires { history.seen.book ≡ J.book }
 {
     opened_trees_are_sound(stored.repository());
-    let desks = desks_of::<R, FiledWorld, DiskStore, J>(rt, alloc, stored, history)?;
+    let sessions = settings.sessions;
+    let desks = desks_of::<R, FiledWorld, DiskStore, J>(rt, alloc, stored, history, sessions)?;
     let server = Server {
         rt,
         alloc,
