@@ -1,6 +1,5 @@
 -- How many sessions a command line asks for.
-use Rattle.std.specs.Prelude.{◌≡◌, ◌≤◌, ℕ, List}
-use Rattle.std.specs.Str.Parse.{digits_value, without_leading_plus}
+use Rattle.std.specs.{Prelude.{◌≡◌, ◌≤◌, ℕ, List}, Str.Parse.{digits_value, without_leading_plus}}
 
 -- a count from 1 to so many
 abbrev pub IsWithin : ℕ → ℕ → Type 0

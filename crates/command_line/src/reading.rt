@@ -1,7 +1,6 @@
 //! How a command line is read.
 ghost use Rattle.std.specs.Prelude.{◌≡◌, IfOk, IfSome, MatchOption, Some};
-ghost use Rattle.command_line.specs.Counts.{IsCount, IsWithin};
-ghost use Rattle.command_line.specs.declared.order.TheConstants.{SESSION_LIMIT};
+ghost use Rattle.command_line.specs.{Counts.{IsCount, IsWithin}, declared.order.TheConstants.SESSION_LIMIT};
 
 use crate::fault::CommandLineFault;
 use crate::order::{Location, NewFormat, Order, SESSION_LIMIT, Service};

@@ -3,10 +3,11 @@ use Rattle.std.specs.Prelude.{ℕ, ◌-◌, Bool, true, false, not, ◌&&◌, �
 use Rattle.std.specs.{Prelude.{if◌then◌else◌, codes}, List.starts_with}
 use Rattle.md5.specs.Md5.{md5}
 use Rattle.hex.specs.Hex.{encode_lower}
-use Rattle.svnpath.specs.{declared.component.TheConstants.DEPTH_LIMIT, Paths.{PathValue, same_path}, Texts.{joined, parsed, starts_with_slash}, Urls.path_of_text}
+use Rattle.svnpath.specs.{declared.component.TheConstants.DEPTH_LIMIT, Paths.PathValue, Texts.{joined, parsed, starts_with_slash}, Urls.path_of_text}
 use Rattle.svnpath.specs.declared.fault.PathFault.{PathFault}
 use Rattle.repo_api.specs.{Judging.{is_older, is_property_name}, Kinds.{has_deeper_at, is_present, kind_at}, States.{RepoState, youngest}}
 use Rattle.repo_api.specs.{declared.change.Source.Source, declared.entry.NodeKind.NodeKind}
+use Rattle.small_rules.specs.Guarding.{guarding_change}
 use Rattle.refusals.specs.{Refusing.path_refusal, declared.Refusal.Refusal}
 use Rattle.refusals.specs.declared.Refusal.TheVariants as refusals
 use Rattle.repo_api.specs.declared.entry.NodeKind.TheVariants as kinds
@@ -48,12 +49,6 @@ add_refusal kinds.Directory = Some refusals.AlreadyExists
 -- the revision that the client has is below the one in which the entry was last changed
 abbrev pub age_refusal : Option ℕ → Option ℕ → Option Refusal
 age_refusal revision made = unless (not (is_older revision made)) refusals.OutOfDate
-
--- the change by which the properties of a directory are guarded: the last one at or under it; and
--- for a client of today at the repository's root, of which every revision changes something, the base
--- of the transaction, whatever that has changed
-abbrev pub guarding_change : Bool → PathValue → Option ℕ → Option ℕ → Option ℕ
-guarding_change is_of_today p base made = if is_of_today && same_path p [] then base else made
 
 abbrev pub created_for_guard : EditState → PathValue → Option ℕ
 created_for_guard e p = guarding_change e.is_of_today p (base_in e.txn) (created e.txn p)

@@ -2,8 +2,8 @@
 ghost use Rattle.std.specs.Prelude.{◌≡◌, option_copied};
 ghost use Rattle.svnpath.specs.{Components.AnswersPath, Texts.joined};
 ghost use Rattle.edit_rules.specs.{Tokens.{is_root_again, is_within, may_open}, Refusing.{add_refusal, age_refusal, delete_refusal, directory_refusal}};
-ghost use Rattle.edit_rules.specs.Refusing.{file_refusal, guarding_change, is_reserved, may_be_named, name_refusal, room_refusal, source_kind_refusal};
-ghost use Rattle.edit_rules.specs.{Refusing.{source_of, source_path, unless}, Judging.{Judges, Names}};
+ghost use Rattle.edit_rules.specs.Refusing.{file_refusal, is_reserved, may_be_named, name_refusal, room_refusal, source_kind_refusal, source_of, source_path};
+ghost use Rattle.edit_rules.specs.{Refusing.unless, Judging.{Judges, Names}};
 
 use byte_string::ByteString;
 use refusals::{NotDone, Refusal};
@@ -49,23 +49,6 @@ pub fn judge_age(revision: Option<u64>, made: Option<u64>) -> Result<(), NotDone
     ensures { Judges result (age_refusal revision made) }
 {
     judge(!is_older(revision, made), Refusal::OutOfDate)
-}
-
-/// Gives the change by which the properties of a directory are guarded, of its last one and the base of the
-/// transaction: the base for a client of today at the repository's root, and else the last one.
-pub fn guarding_change(
-    is_of_today: bool,
-    path: &Path,
-    base: Option<u64>,
-    made: Option<u64>,
-) -> Option<u64>
-    ensures { result ≡ guarding_change is_of_today path.now base made }
-{
-    if is_of_today && path.is_root() {
-        base
-    } else {
-        made
-    }
 }
 
 /// Checks that a file exists there, unchanged since the revision that the client has.

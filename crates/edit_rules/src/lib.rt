@@ -13,8 +13,8 @@ mod tokens;
 
 pub use checksums::judge_checksum;
 pub use judging::{
-    guarding_change, is_within, judge, judge_absence, judge_age, judge_directory, judge_file,
-    judge_name, judge_presence, judge_room, judge_source_kind, may_open, path_named, source_named,
+    is_within, judge, judge_absence, judge_age, judge_directory, judge_file, judge_name,
+    judge_presence, judge_room, judge_source_kind, may_open, path_named, source_named,
 };
 pub use laws::{edits_are_right, edits_keep_trees};
 pub use open_tokens::OpenTokens;

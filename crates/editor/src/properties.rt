@@ -6,9 +6,10 @@ ghost use Rattle.edit_rules.specs.Tokens.{path_of};
 
 use crate::editor::CommitEditor;
 use byte_string::ByteString;
-use edit_rules::{Opened, edits_are_right, guarding_change, judge_age, judge_name};
+use edit_rules::{Opened, edits_are_right, judge_age, judge_name};
 use refusals::{NotDone, Refusal};
 use repo_api::{EditOp, Repository};
+use small_rules::guarding_change;
 use std::alloc::AllocError;
 use svnpath::Path;
 use wire_edits::{EditorCommand, PropertyChange};

@@ -4,9 +4,10 @@
 ghost use Rattle.std.specs.Prelude.{◌≡◌, Option};
 ghost use Rattle.repo_api.specs.{Kinds.kind_of, Locking.is_of_whole_tree, declared.entry.Entry.Entry};
 ghost use Rattle.wire_forms.specs.Forms.{is_name};
-ghost use Rattle.small_rules.specs.Going.{goes};
+ghost use Rattle.small_rules.specs.{Going.goes, Guarding.guarding_change};
 
 use repo_api::{Action, FileText, NodeKind};
+use svnpath::Path;
 
 /// Says whether a change of this kind changes all that lies beneath its path.
 pub fn is_of_whole_tree(action: Action) -> bool
@@ -33,5 +34,22 @@ pub fn goes(old: NodeKind, new: NodeKind) -> bool
         NodeKind::Absent => false,
         NodeKind::File => !new.is_file(),
         NodeKind::Directory => !new.is_directory(),
+    }
+}
+
+/// Gives the change by which the properties of a directory are guarded, of its last one and the base of the
+/// transaction: the base for a client of today at the repository's root, and else the last one.
+pub fn guarding_change(
+    is_of_today: bool,
+    path: &Path,
+    base: Option<u64>,
+    made: Option<u64>,
+) -> Option<u64>
+    ensures { result ≡ guarding_change is_of_today path.now base made }
+{
+    if is_of_today && path.is_root() {
+        base
+    } else {
+        made
     }
 }
