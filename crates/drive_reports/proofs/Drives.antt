@@ -4,7 +4,7 @@ use Rattle.std.proofs.{Common.if◌then◌else◌, lemmas.Bool.false≢true, lem
 use Rattle.std.specs.{Prelude.{IsTrue, IsSome, IsSomeAnd, is_some, slice_get}, FinMap.get-empty}
 use Rattle.svnpath.specs.{PathLaws.{rest_append, under_append, under_is}, Paths.{is_at_or_under, path_cmp, PathValue}}
 use Rattle.repo_api.specs.{Soundness.AreTrees, States.{RepoState, Revision, tree_in, tree_of, trees_in}, Trees.{HasDirectory, is_directory}}
-use Rattle.drive_rules.specs.Scopes.{below, DepthLimit, HoldsTogether}
+use Rattle.drive_rules.specs.Scopes.{below, depth_below, DepthLimit, hides_nothing, HoldsTogether}
 use Rattle.drive_rules.proofs.{Entries.below_under, Trees.{tree_holds, scope_holds}}
 use Rattle.drive_reports.specs.{Reported.reported_entries, Targets.{WholeReport, goal_path, target_tree, client_tree, limit_of, old_tree, new_tree}}
 use Rattle.drive_reports.specs.declared.ask.DriveAsk.{DriveAsk}
@@ -49,9 +49,9 @@ target_holds c ask trees p q at low some = by (is_at_or_under q ask.target) some
 pub both_hold : (c : RepoState) (report : WholeReport) → AreTrees c.revisions
     → HoldsTogether report.ask.target (old_tree c report) × HoldsTogether report.ask.target (new_tree c report)
 both_hold c report trees = (
-  scope_holds limit (reported_entries (client_tree c report)) (target_tree c report.ask) (reported_entries (client_tree c report)) report.ask.target
+  scope_holds hides_nothing depth_below limit (reported_entries (client_tree c report)) (target_tree c report.ask) (reported_entries (client_tree c report)) report.ask.target
       (all_hold (trees_in c.revisions) report.ask.target report.grafts (revisions_hold c trees)),
-  scope_holds limit (reported_entries (client_tree c report)) (target_tree c report.ask) (target_tree c report.ask) report.ask.target (target_holds c report.ask trees),
+  scope_holds hides_nothing depth_below limit (reported_entries (client_tree c report)) (target_tree c report.ask) (target_tree c report.ask) report.ask.target (target_holds c report.ask trees),
 )
   where
     limit : DepthLimit

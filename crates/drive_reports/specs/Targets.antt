@@ -4,7 +4,9 @@ use Rattle.std.specs.FinMap.{get}
 use Rattle.svnpath.specs.Paths.{is_at_or_under, PathValue}
 use Rattle.repo_api.specs.{States.{LockMap, RepoState, trees_in}, Trees.Tree, declared.entry.Entry.Entry, declared.lock.Lock.Lock}
 use Rattle.wire_forms.specs.Forms.{is_name}
-use Rattle.drive_rules.specs.{Scopes.{DepthLimit, scope_of, within}, Scopes.DepthLimit.{Given, Reported}, declared.depth.Depth.Depth}
+use Rattle.small_rules.specs.Going.{goes}
+use Rattle.drive_rules.specs.{Scopes.{depth_below, DepthLimit, hides_nothing, scope_of, within}, Scopes.DepthLimit.{Given, Reported}}
+use Rattle.drive_rules.specs.declared.depth.Depth.{Depth}
 use Rattle.drive_reports.specs.{Reported.{ReportedTree, reported_entries, has_directory, reported}, declared.ask.DepthAsked.DepthAsked}
 use Rattle.drive_reports.specs.{declared.ask.DriveAsk.DriveAsk, declared.graft.Graft.Graft, declared.report.ReportRoot.ReportRoot}
 use Rattle.drive_reports.specs.declared.ask.DepthAsked.TheVariants as asks
@@ -80,8 +82,8 @@ drive_limit c report = limit_of (client_tree c report) report.root report.ask.de
 -- the paths that the drive is of
 abbrev pub drive_scope : RepoState → WholeReport → PathValue → Bool
 drive_scope c report =
-    scope_of (drive_limit c report) (client_entries c report) (target_entries c report)
-    report.ask.target
+    scope_of hides_nothing depth_below (drive_limit c report) (client_entries c report)
+    (target_entries c report) report.ask.target
 
 -- what the client has of these paths
 abbrev pub old_tree : RepoState → WholeReport → Tree
@@ -90,6 +92,10 @@ old_tree c report = within (drive_scope c report) (client_entries c report)
 -- and what it is to have of them
 abbrev pub new_tree : RepoState → WholeReport → Tree
 new_tree c report = within (drive_scope c report) (target_entries c report)
+
+-- what the client has of these paths, and is not to keep: it goes, or comes anew as another kind
+abbrev pub is_apart : RepoState → WholeReport → PathValue → Bool
+is_apart c report q = goes (old_tree c report q) (new_tree c report q)
 
 -- the paths of the drive whose token is stale
 abbrev pub stale_in : RepoState → WholeReport → PathValue → Bool

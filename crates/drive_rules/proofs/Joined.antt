@@ -1,12 +1,13 @@
--- Right drives of two scopes apart make one.
+-- Right drives of two separate scopes make one.
 use Rattle.std.proofs.Common.{◌≡◌, Bool, true, false, cond, ◌&&◌, ◌||◌, not, List, [], ◌∷◌, ◌++◌, Option, Some, None, refl, sym, ap, ◌∙◌, ◌⊎◌, inl, inr, ⊎_elim}
 use Rattle.std.proofs.{Common.option_map, lemmas.Bool.false≢true, lemmas.List.Sums.fold-append}
-use Rattle.std.specs.{Prelude.{IsSome, is_some}, List.list_any}
+use Rattle.std.specs.{Prelude.{IsSome, IsSomeAnd, is_some}, List.list_any}
 use Rattle.svnpath.specs.{PathLaws.{same_path_is, same_path_refl, under_itself}, Paths.{is_at_or_under, PathValue, same_path}}
-use Rattle.repo_api.specs.{Trees.Tree, declared.entry.Content.TheVariants.File}
-use Rattle.drive_rules.specs.Steps.{Step, Node, node_at, after_step, after_steps, meets, all_meet, is_of_kind, step_path, is_named, has_step, is_opening}
-use Rattle.drive_rules.specs.Steps.{adds_or_deletes, is_text, is_entry_property, with_property_value, empty_content, no_properties, may_change}
-use Rattle.drive_rules.specs.{Steps.EntryKind.FileKind, Steps.Step.{OpenAt, AddAt, DeleteAt, PropertyAt, TextAt}, Drives.{IsRight, IsInBoth, created_revision}}
+use Rattle.repo_api.specs.{Trees.{HasFile, is_directory, Tree}, declared.entry.Content.TheVariants.File, declared.entry.Entry.Entry}
+use Rattle.drive_rules.specs.Steps.{Step, Node, node_at, node_of, after_step, after_steps, meets, all_meet, is_of_kind, step_path, is_named, has_step}
+use Rattle.drive_rules.specs.Steps.{is_opening, adds_or_deletes, is_adding, is_text, is_entry_property, with_property_value, empty_content, no_properties}
+use Rattle.drive_rules.specs.{Steps.may_change, Steps.EntryKind.FileKind, Steps.Step.{OpenAt, AddAt, DeleteAt, PropertyAt, TextAt}}
+use Rattle.drive_rules.specs.Drives.{IsRight, IsInBoth, created_revision}
 
 pub or_cases : (a b : Bool) → (a || b) ≡ true → (a ≡ true) ⊎ (b ≡ true)
 or_cases true b h = inl refl
@@ -87,7 +88,7 @@ pub named_append : (test : Step → Bool) (q : PathValue) (xs ys : List Step) �
 named_append test q xs ys = any_append _ xs ys
 
 -- what isn't in the scope isn't named
-unnamed : {seen : Node → Node} {one stale : PathValue → Bool} {r t : Tree} {cs : List Step} → IsRight seen one stale r t cs → (q : PathValue) → one q ≡ false → is_named q cs ≡ false
+unnamed : {seen : Node → Node} {one due apart : PathValue → Bool} {r t : Tree} {cs : List Step} → IsRight seen one due apart r t cs → (q : PathValue) → one q ≡ false → is_named q cs ≡ false
 unnamed {one = one} {cs = cs} right q out = by (is_named q cs) refl
   where
     by : (b : Bool) → is_named q cs ≡ b → b ≡ false
@@ -102,6 +103,14 @@ any_unnamed test q (c ∷ cs) h = by (same_path (step_path c) q) h (any_unnamed 
     by : (b : Bool) → ((b && true) || is_named q cs) ≡ false → (is_named q cs ≡ false → has_step test q cs ≡ false) → ((b && test c) || has_step test q cs) ≡ false
     by true g ih = absurd (false≢true (sym g))
     by false g ih = ih g
+
+-- what a step says of a path names it
+pub any_named : (test : Step → Bool) (q : PathValue) (cs : List Step) → has_step test q cs ≡ true → is_named q cs ≡ true
+any_named test q cs h = by (is_named q cs) refl
+  where
+    by : (b : Bool) → is_named q cs ≡ b → b ≡ true
+    by true e = refl
+    by false e = absurd (false≢true (sym (any_unnamed test q cs e) ∙ h))
 
 pub other_way : {one other : PathValue → Bool} → IsDisjoint one other → IsDisjoint other one
 other_way {one = one} apart q h = by (one q) refl
@@ -140,16 +149,17 @@ all_meet_append [] ys q n = refl
 all_meet_append (x ∷ xs) ys q n =
     ap (λ b. meets q n x && b) (all_meet_append xs ys q (after_step q n x)) ∙ and_assoc (meets q n x) (all_meet q (after_step q n x) xs) (all_meet q (after_steps q (after_step q n x) xs) ys)
 
-pub joined : (seen : Node → Node) (one other stale : PathValue → Bool) (r t : Tree) (xs ys : List Step) → IsDisjoint one other → Spares xs other → Spares ys one
-    → IsRight seen one stale r t xs → IsRight seen other stale r t ys → IsRight seen (either one other) stale r t (xs ++ ys)
-joined seen one other stale r t xs ys apart xs_spare ys_spare x y = record {
+pub joined : (seen : Node → Node) (one other due apart : PathValue → Bool) (r t : Tree) (xs ys : List Step) → IsDisjoint one other → Spares xs other → Spares ys one
+    → IsRight seen one due apart r t xs → IsRight seen other due apart r t ys → IsRight seen (either one other) due apart r t (xs ++ ys)
+joined seen one other due apart r t xs ys disjoint xs_spare ys_spare x y = record {
   ends = λ q h. ap (option_map seen) (fold-append (after_step q) (node_at r q) xs ys) ∙ ⊎_elim (λ h1. ap (option_map seen) (all_untouched ys q (after_steps q (node_at r q) xs) (ys_spare q h1)) ∙ x.ends q h1) (λ h2. ap (λ n. option_map seen (after_steps q n ys)) (all_untouched xs q (node_at r q) (xs_spare q h2)) ∙ y.ends q h2) (or_cases (one q) (other q) h);
   texts = λ q h text. named_append is_text q xs ys ∙ ⊎_elim (λ h1. or_left (has_step is_text q xs) (has_step is_text q ys) (x.texts q h1 text)) (λ h2. or_right (has_step is_text q xs) (has_step is_text q ys) (y.texts q h2 text)) (or_cases (one q) (other q) h);
   names = λ q h both old. named_append (λ _. true) q xs ys ∙ ⊎_elim (λ h1. or_left _ _ (x.names q h1 both old)) (λ h2. or_right _ _ (y.names q h2 both old)) (or_cases (one q) (other q) h);
   within = λ q named. ⊎_elim (λ n1. or_left _ _ (x.within q n1)) (λ n2. or_right _ _ (y.within q n2)) (parts q named);
   reasons = λ q named. ⊎_elim (λ n1. x.reasons q n1) (λ n2. y.reasons q n2) (parts q named);
-  opens = λ q kind named. ⊎_elim (λ n1. first q (x.opens q kind n1) (x.within q n1)) (λ n2. second q (y.opens q kind n2) (y.within q n2)) (parts q named);
-  meets = λ q h. all_meet_append xs ys q (node_at r q) ∙ ⊎_elim (λ h1. and_both _ _ (x.meets q h1) (all_meet_unnamed ys q (after_steps q (node_at r q) xs) (unnamed y q (apart q h1)))) (λ h2. and_both _ _ (all_meet_unnamed xs q (node_at r q) (unnamed x q (other_way apart q h2))) (ap (λ n. all_meet q n ys) (all_untouched xs q (node_at r q) (xs_spare q h2)) ∙ y.meets q h2)) (or_cases (one q) (other q) h);
+  opens = λ q kind a named. ⊎_elim (λ n1. first q (x.opens q kind a n1) (x.within q n1)) (λ n2. second q (y.opens q kind a n2) (y.within q n2)) (parts q named);
+  replaces = λ q h both a. named_append is_adding q xs ys ∙ ⊎_elim (λ h1. or_left (has_step is_adding q xs) (has_step is_adding q ys) (x.replaces q h1 both a)) (λ h2. or_right (has_step is_adding q xs) (has_step is_adding q ys) (y.replaces q h2 both a)) (or_cases (one q) (other q) h);
+  meets = λ q h. all_meet_append xs ys q (node_at r q) ∙ ⊎_elim (λ h1. and_both _ _ (x.meets q h1) (all_meet_unnamed ys q (after_steps q (node_at r q) xs) (unnamed y q (disjoint q h1)))) (λ h2. and_both _ _ (all_meet_unnamed xs q (node_at r q) (unnamed x q (other_way disjoint q h2))) (ap (λ n. all_meet q n ys) (all_untouched xs q (node_at r q) (xs_spare q h2)) ∙ y.meets q h2)) (or_cases (one q) (other q) h);
 }
   where
     parts : (q : PathValue) → is_named q (xs ++ ys) ≡ true → (is_named q xs ≡ true) ⊎ (is_named q ys ≡ true)
@@ -158,26 +168,45 @@ joined seen one other stale r t xs ys apart xs_spare ys_spare x y = record {
     first : (q : PathValue) → (has_step is_opening q xs ≡ true) × (has_step adds_or_deletes q xs ≡ false) → one q ≡ true → (has_step is_opening q (xs ++ ys) ≡ true) × (has_step adds_or_deletes q (xs ++ ys) ≡ false)
     first q h in_one = (
       named_append is_opening q xs ys ∙ or_left _ _ h.0,
-      named_append adds_or_deletes q xs ys ∙ ap (λ b. b || has_step adds_or_deletes q ys) h.1 ∙ any_unnamed adds_or_deletes q ys (unnamed y q (apart q in_one)),
+      named_append adds_or_deletes q xs ys ∙ ap (λ b. b || has_step adds_or_deletes q ys) h.1 ∙ any_unnamed adds_or_deletes q ys (unnamed y q (disjoint q in_one)),
     )
 
     second : (q : PathValue) → (has_step is_opening q ys ≡ true) × (has_step adds_or_deletes q ys ≡ false) → other q ≡ true → (has_step is_opening q (xs ++ ys) ≡ true) × (has_step adds_or_deletes q (xs ++ ys) ≡ false)
     second q h in_other = (
       named_append is_opening q xs ys ∙ or_right _ _ h.0,
-      named_append adds_or_deletes q xs ys ∙ ap (λ b. b || has_step adds_or_deletes q ys) (any_unnamed adds_or_deletes q xs (unnamed x q (other_way apart q in_other))) ∙ h.1,
+      named_append adds_or_deletes q xs ys ∙ ap (λ b. b || has_step adds_or_deletes q ys) (any_unnamed adds_or_deletes q xs (unnamed x q (other_way disjoint q in_other))) ∙ h.1,
     )
 
--- an empty drive is right where nothing differs
-pub nothing : (seen : Node → Node) (scope stale : PathValue → Bool) (r t : Tree)
-    → ((q : PathValue) → scope q ≡ true → (node_at r q ≡ node_at t q) × (IsInBoth r t q → (created_revision r q ≡ created_revision t q) × (stale q ≡ false)))
-    → IsRight seen scope stale r t []
-nothing seen scope stale r t same = record {
+pub mapped_some : (o : Option Entry) → IsSome o → is_some (option_map node_of o) ≡ true
+mapped_some None s = s
+mapped_some (Some x) s = refl
+
+file_some : (t : Tree) (q : PathValue) → HasFile t q → IsSome (t q)
+file_some t q file = by (t q) file
+  where
+    by : (o : Option Entry) → IsSomeAnd o (λ y. is_directory y ≡ false) → IsSome o
+    by None k = absurd k
+    by (Some y) k = refl
+
+both_by : (r t : Tree) (q : PathValue) → node_at r q ≡ node_at t q → IsSome (t q) → IsInBoth r t q
+both_by r t q same some = (by (r q) (ap is_some same ∙ mapped_some (t q) some), some)
+  where
+    by : (o : Option Entry) → is_some (option_map node_of o) ≡ true → IsSome o
+    by None h = h
+    by (Some x) h = refl
+
+-- an empty drive is right where nothing differs, is due or is apart
+pub nothing : (seen : Node → Node) (scope due apart : PathValue → Bool) (r t : Tree)
+    → ((q : PathValue) → scope q ≡ true → (node_at r q ≡ node_at t q) × (IsInBoth r t q → (created_revision r q ≡ created_revision t q) × ((due q ≡ false) × (apart q ≡ false))))
+    → IsRight seen scope due apart r t []
+nothing seen scope due apart r t same = record {
   ends = λ q h. ap (option_map seen) (same q h).0;
-  texts = λ q h text. absurd (text.1 (ap (option_map (λ (n : Node). n.0)) (same q h).0));
-  names = λ q h both old. ⊎_elim (λ o. absurd (o ((same q h).1 both).0)) (λ s. absurd (false≢true (sym ((same q h).1 both).1 ∙ s))) old;
+  texts = λ q h text. absurd (⊎_elim (λ a. false≢true (sym ((same q h).1 (both_by r t q (same q h).0 (file_some t q text.0))).1.1 ∙ a)) (λ d. d (ap (option_map (λ (n : Node). n.0)) (same q h).0)) text.1);
+  names = λ q h both old. ⊎_elim (λ o. absurd (o ((same q h).1 both).0)) (λ s. absurd (false≢true (sym ((same q h).1 both).1.0 ∙ s))) old;
   within = λ q named. absurd (false≢true named);
   reasons = λ q named. absurd (false≢true named);
-  opens = λ q kind named. absurd (false≢true named);
+  opens = λ q kind a named. absurd (false≢true named);
+  replaces = λ q h both a. absurd (false≢true (sym ((same q h).1 both).1.1 ∙ a));
   meets = λ q h. refl;
 }
 

@@ -3,7 +3,7 @@ use Rattle.std.specs.Prelude.{◌≡◌, ℕ, Bool, false, List, [], Option, opt
 use Rattle.svnpath.specs.Paths.{is_at_or_under, PathValue}
 use Rattle.repo_api.specs.{Trees.{HasFile, is_directory, revision_of, Tree}, declared.entry.Content.Content, declared.entry.Entry.Entry}
 use Rattle.repo_api.specs.declared.entry.Mark.{Mark}
-use Rattle.drive_rules.specs.Steps.{Step, Node, node_at, after_steps, all_meet, has_step, is_named, is_opening, adds_or_deletes, is_text}
+use Rattle.drive_rules.specs.Steps.{Step, Node, node_at, after_steps, all_meet, has_step, is_named, is_opening, is_adding, adds_or_deletes, is_text}
 
 -- the mark of the last change at or under a path, where something stands
 abbrev pub last_mark : Tree → PathValue → Option Mark
@@ -30,40 +30,45 @@ abbrev pub IsOfOneKind : Tree → Tree → PathValue → Type 0
 IsOfOneKind old new q =
     IsSomeAnd (old q) (λ e. IsSomeAnd (new q) (λ f. is_directory e ≡ is_directory f))
 
--- the path is the root, or something differs or has a stale token at or under it
-abbrev pub HasReason : (PathValue → Bool) → Tree → Tree → PathValue → Type 0
-HasReason stale old new q =
+-- the path is the root, or something at or under it differs, is due, or is apart
+abbrev pub HasReason : (PathValue → Bool) → (PathValue → Bool) → Tree → Tree → PathValue → Type 0
+HasReason due apart old new q =
     (q ≡ []) ⊎ ((p : PathValue) × IsTrue (is_at_or_under p q)
-    × (Differs old new p ⊎ IsTrue (stale p)))
+    × (Differs old new p ⊎ (IsTrue (due p) ⊎ (IsInBoth old new p × IsTrue (apart p)))))
 
--- a file, where nothing stood, or a directory, or a file of another text
-abbrev pub HasOtherText : Tree → Tree → PathValue → Type 0
-HasOtherText old new q = HasFile new q × (content_at old q ≡ content_at new q → ⊥)
+-- a file that is apart, or where nothing stood, or a directory, or a file of another text
+abbrev pub HasOtherText : (PathValue → Bool) → Tree → Tree → PathValue → Type 0
+HasOtherText apart old new q =
+    HasFile new q × (IsTrue (apart q) ⊎ (content_at old q ≡ content_at new q → ⊥))
 
--- the created revision is another, or the token is stale
+-- the created revision is another, or the entry is due
 abbrev pub MustBeNamed : (PathValue → Bool) → Tree → Tree → PathValue → Type 0
-MustBeNamed stale old new q =
-    (created_revision old q ≡ created_revision new q → ⊥) ⊎ IsTrue (stale q)
+MustBeNamed due old new q =
+    (created_revision old q ≡ created_revision new q → ⊥) ⊎ IsTrue (due q)
 
--- A right drive from one tree to another, of the paths in scope, where some have stale tokens, by
--- what is seen of an entry.
-pub record IsRight (seen : Node → Node) (scope stale : PathValue → Bool) (old new : Tree)
+-- A right drive from one tree to another, of the paths in scope, by what is seen of an entry. An
+-- entry that is due is named though it may not differ. One that is apart is another than the one
+-- that stood there, and comes in its place though it may not differ.
+pub record IsRight (seen : Node → Node) (scope due apart : PathValue → Bool) (old new : Tree)
     (cs : List Step) : Type 0 where
   -- it ends at the new tree
   pub ends : (q : PathValue) → IsTrue (scope q)
       → option_map seen (after_steps q (node_at old q) cs) ≡ option_map seen (node_at new q)
-  -- it names what stays where its created revision is another or its token is stale
-  pub names : (q : PathValue) → IsTrue (scope q) → IsInBoth old new q → MustBeNamed stale old new q
+  -- it names what stands in both trees where its created revision is another or it is due
+  pub names : (q : PathValue) → IsTrue (scope q) → IsInBoth old new q → MustBeNamed due old new q
       → IsTrue (is_named q cs)
-  -- it says the text of a file that is new or has another text
-  pub texts : (q : PathValue) → IsTrue (scope q) → HasOtherText old new q
+  -- it says the text of a file that is new, is apart or has another text
+  pub texts : (q : PathValue) → IsTrue (scope q) → HasOtherText apart old new q
       → IsTrue (has_step is_text q cs)
   -- it names nothing outside the scope
   pub within : (q : PathValue) → IsTrue (is_named q cs) → IsTrue (scope q)
   -- it names nothing without a reason
-  pub reasons : (q : PathValue) → IsTrue (is_named q cs) → HasReason stale old new q
-  -- what keeps its kind is opened, and neither added nor deleted
-  pub opens : (q : PathValue) → IsOfOneKind old new q → IsTrue (is_named q cs)
+  pub reasons : (q : PathValue) → IsTrue (is_named q cs) → HasReason due apart old new q
+  -- what keeps its kind and is not apart is opened, and neither added nor deleted
+  pub opens : (q : PathValue) → IsOfOneKind old new q → apart q ≡ false → IsTrue (is_named q cs)
       → IsTrue (has_step is_opening q cs) × (has_step adds_or_deletes q cs ≡ false)
+  -- what stands in both trees and is apart is added, so what stood there was deleted before
+  pub replaces : (q : PathValue) → IsTrue (scope q) → IsInBoth old new q → IsTrue (apart q)
+      → IsTrue (has_step is_adding q cs)
   -- each step finds what it needs
   pub meets : (q : PathValue) → IsTrue (scope q) → IsTrue (all_meet q (node_at old q) cs)

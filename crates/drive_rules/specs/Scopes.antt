@@ -36,10 +36,10 @@ depth_below Immediates = Empty
 depth_below Files = Empty
 depth_below Empty = Empty
 
--- the depth that was said of a directory, or else what its parent's depth leaves it
-abbrev pub own_or_inherited : Option Depth → Depth → Depth
-own_or_inherited (Some depth) above = depth
-own_or_inherited None above = depth_below above
+-- the depth that was said of a directory, or else what it inherits of its parent's depth
+abbrev pub own_or_inherited : (Depth → Depth) → Option Depth → Depth → Depth
+own_or_inherited inherited (Some depth) above = depth
+own_or_inherited inherited None above = inherited above
 
 -- How deep a drive goes: to a given depth, or as deep as was reported of each directory of the old
 -- tree, with a depth for a top that is no directory there.
@@ -73,19 +73,28 @@ abbrev pub includes : DepthLimit → Tree → Tree → Depth → PathValue → B
 includes limit old new depth child =
     includes_child depth (old child) (new child) || keeps_reported limit (old child)
 
--- whether the names, gone down one by one from a directory of this depth, stay in scope
-abbrev pub stays_in_scope : DepthLimit → Tree → Tree → PathValue → Depth → List Component → Bool
-stays_in_scope limit old new here depth [] = true
-stays_in_scope limit old new here depth (c ∷ rest) =
+-- nothing is hidden
+abbrev pub hides_nothing : PathValue → Bool
+hides_nothing q = false
+
+-- Whether the names, gone down one by one from a directory of this depth, stay in scope: what is
+-- hidden is not in it, nor what is under it. A directory of which no depth was said has what it
+-- inherits of its parent's.
+abbrev pub stays_in_scope : (PathValue → Bool) → (Depth → Depth) → DepthLimit → Tree → Tree
+    → PathValue → Depth → List Component → Bool
+stays_in_scope hides inherited limit old new here depth [] = true
+stays_in_scope hides inherited limit old new here depth (c ∷ rest) =
     let child = here ++ c ∷ [] in
-    includes limit old new depth child
-    && stays_in_scope limit old new child (own_or_inherited (depth_said limit child) depth) rest
+    not (hides child) && (includes limit old new depth child
+    && stays_in_scope hides inherited limit old new child
+    (own_or_inherited inherited (depth_said limit child) depth) rest)
 
 -- the paths of a drive from this top, so deep
-abbrev pub scope_of : DepthLimit → Tree → Tree → PathValue → PathValue → Bool
-scope_of limit old new top q =
+abbrev pub scope_of : (PathValue → Bool) → (Depth → Depth) → DepthLimit → Tree → Tree → PathValue
+    → PathValue → Bool
+scope_of hides inherited limit old new top q =
     is_at_or_under q top
-    && stays_in_scope limit old new top (top_limit limit top) (drop (length top) q)
+    && stays_in_scope hides inherited limit old new top (top_limit limit top) (drop (length top) q)
 
 -- from the top on, what stands below a path stands in a directory
 abbrev pub HoldsTogether : PathValue → Tree → Type 0

@@ -6,7 +6,7 @@ use Rattle.std.specs.Prelude.{Result, Ok, Err, ok_or, is_some}
 use Rattle.svnpath.specs.{PathLaws.same_path_is, Paths.{is_at_or_under, PathValue, same_path}}
 use Rattle.refusals.specs.declared.Refusal.{Refusal}
 use Rattle.refusals.specs.declared.Refusal.TheVariants as refusals
-use Rattle.drive_rules.specs.{Scopes.{stays_in_scope, top_limit}, Steps.EntryKind.DirectoryKind}
+use Rattle.drive_rules.specs.{Scopes.{depth_below, hides_nothing, stays_in_scope, top_limit}, Steps.EntryKind.DirectoryKind}
 use Rattle.drive_rules.proofs.Joined.{and_front}
 use Rattle.reporter.specs.{Visits.{entry_kind, kind_if}, declared.visit.Visit.Visit}
 use Rattle.drive_reports.specs.{Named.{IsNamed, AreNamed}, Refusing.{◌>>=◌, ok_if, OpenState, has_goal, has_anchor, finish_root}}
@@ -53,7 +53,7 @@ module _ (c : RepoState) (report : OpenState) (root : ReportRoot) where
   -- what is to stand at the root, by the target
   abbrev root_entry : PathValue → Option Entry
   root_entry top =
-      if is_at_or_under [] top && stays_in_scope (limit_of (client_tree c Whole) root report.ask.depth) (reported_entries (client_tree c Whole)) (target_tree c report.ask) top (top_limit (limit_of (client_tree c Whole) root report.ask.depth) top) (drop (length top) [])
+      if is_at_or_under [] top && stays_in_scope hides_nothing depth_below (limit_of (client_tree c Whole) root report.ask.depth) (reported_entries (client_tree c Whole)) (target_tree c report.ask) top (top_limit (limit_of (client_tree c Whole) root report.ask.depth) top) (drop (length top) [])
       then (if is_at_or_under [] top then trees_in c.revisions report.ask.revision (report.ask.goal ++ drop (length top) []) else None)
       else None
 

@@ -15,8 +15,8 @@ use Rattle.reporter.specs.{Nesting.{stands_as, walk}, Visits.{OwnSteps, entry_ki
 use Rattle.reporter.specs.declared.visit.Visit.TheVariants.{Open, Add, Delete, Close}
 use Rattle.drive_reports.specs.Named.{IsNamed, AreNamed}
 use Rattle.drive_reports.specs.Reported.{ReportedEntry, ReportedTree, left_by, top_entry, reported_as, in_subtree, in_graft, has_place, with_graft}
-use Rattle.drive_reports.specs.Targets.{WholeReport, client_tree, drive_scope, goal_path, is_stale, is_stale_token, new_tree, old_tree, stale_in, target_tree}
-use Rattle.drive_reports.specs.{declared.graft.Graft.Graft, declared.graft.Subtree.Subtree}
+use Rattle.drive_reports.specs.Targets.{WholeReport, client_tree, drive_scope, goal_path, is_apart, is_stale, is_stale_token, new_tree, old_tree, stale_in}
+use Rattle.drive_reports.specs.{Targets.target_tree, declared.graft.Graft.Graft, declared.graft.Subtree.Subtree}
 use Rattle.drive_wire.specs.Sent.{or_no_text}
 use Rattle.drive_sides.specs.Plans.{IsPlan, from_top}
 use Rattle.drive_sides.proofs.Listing.{in_old, in_new, under_target}
@@ -162,10 +162,10 @@ module _ (c : RepoState) (report : WholeReport) (trees : AreTrees c.revisions) (
       by None h = absurd (false≢true h)
       by (Some token) h = target_named p (and_front (is_some (target_tree c report.ask p)) _ h)
 
-  reason_named : (q : PathValue) → HasReason (stale_in c report) Old New q → IsNamed q
+  reason_named : (q : PathValue) → HasReason (stale_in c report) (is_apart c report) Old New q → IsNamed q
   reason_named q reason =
       ⊎_elim (λ root. subst IsNamed (sym root) (All-nil IsComponent))
-      (λ w. named_above q w.0 w.1 (⊎_elim (λ differs. differing w.0 differs) (λ stale. stale_named w.0 stale) w.2)) reason
+      (λ w. named_above q w.0 w.1 (⊎_elim (λ differs. differing w.0 differs) (λ more. ⊎_elim (λ stale. stale_named w.0 stale) (λ both. old_named w.0 both.0.0) more) w.2)) reason
 
   -- ---- visits
 

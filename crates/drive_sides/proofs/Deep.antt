@@ -1,14 +1,13 @@
 -- How deep a drive goes, and which children it leaves out.
-use Rattle.std.proofs.Common.{◌≡◌, get_or, ◌+◌, ◌<◌, ◌≤◌, ℕ, Bool, true, false, ◌&&◌, List, [], ◌∷◌, ◌++◌, length, drop}
-use Rattle.std.proofs.{Common.{refl, sym, ap, ◌∙◌, subst}, lemmas.Bool.false≢true, lemmas.List.append_assoc}
+use Rattle.std.proofs.Common.{◌≡◌, get_or, ◌+◌, ◌<◌, ◌≤◌, ℕ, Bool, true, false, ◌&&◌, List, [], ◌∷◌, ◌++◌, length, drop, refl, sym, ap, ◌∙◌, subst}
+use Rattle.std.proofs.{lemmas.Bool.false≢true, lemmas.List.append_assoc}
 use Rattle.svnpath.specs.{PathLaws.{rest_append, under_is}, Paths.{Component, is_at_or_under, PathValue}}
-use Rattle.repo_api.specs.{States.{RepoState}, Trees.Tree}
+use Rattle.repo_api.specs.{States.RepoState, Trees.Tree}
 use Rattle.drive_rules.proofs.Joined.{and_front}
 use Rattle.drive_rules.specs.declared.depth.Depth.{Depth}
-use Rattle.drive_rules.specs.Scopes.{depth_said, DepthLimit, includes, own_or_inherited, scope_of, stays_in_scope, top_limit}
-use Rattle.drive_rules.specs.{declared.depth.Depth.TheVariants.{Empty, Files, Immediates, Infinity}}
-use Rattle.drive_reports.specs.{Reported.{ReportedTree, reported_entries}}
-use Rattle.drive_reports.specs.Targets.{WholeReport, client_tree, drive_limit, drive_scope, limit_of, target_tree}
+use Rattle.drive_rules.specs.Scopes.{depth_below, depth_said, DepthLimit, hides_nothing, includes, own_or_inherited, scope_of, stays_in_scope, top_limit}
+use Rattle.drive_rules.specs.declared.depth.Depth.TheVariants.{Empty, Files, Immediates, Infinity}
+use Rattle.drive_reports.specs.{Reported.{ReportedTree, reported_entries}, Targets.{WholeReport, client_tree, drive_limit, drive_scope, limit_of, target_tree}}
 use Rattle.drive_reports.specs.declared.ask.DepthAsked.{DepthAsked}
 use Rattle.drive_reports.specs.declared.ask.DepthAsked.TheVariants as asks
 use Rattle.drive_sides.specs.Depths.{depth_at, depth_down, reach_of, Reaches}
@@ -21,10 +20,10 @@ IsSoDeep limit top q here depth names =
 
 pub deeper : (limit : DepthLimit) (top q here child : PathValue) (depth next : Depth) (names : List Component) (i : ℕ) (x : Component)
     → IsSoDeep limit top q here depth (drop i names) → i < length names → x ≡ get_or names i x → child ≡ here ++ x ∷ []
-    → next ≡ own_or_inherited (depth_said limit child) depth → IsSoDeep limit top q child next (drop (i + 1) names)
+    → next ≡ own_or_inherited depth_below (depth_said limit child) depth → IsSoDeep limit top q child next (drop (i + 1) names)
 deeper limit top q here child depth next names i x far lt is child_is next_is =
     far ∙ ap (depth_down limit here depth) (next_name names i x lt is)
-    ∙ ap (λ p. depth_down limit p (own_or_inherited (depth_said limit p) depth) (drop (i + 1) names)) (sym child_is)
+    ∙ ap (λ p. depth_down limit p (own_or_inherited depth_below (depth_said limit p) depth) (drop (i + 1) names)) (sym child_is)
     ∙ ap (λ d. depth_down limit child d (drop (i + 1) names)) (sym next_is)
 
 pub at_the_end : (limit : DepthLimit) (top q here : PathValue) (depth : Depth) (names : List Component) (i : ℕ)
@@ -41,14 +40,14 @@ and_right false b h = absurd (false≢true h)
 
 -- a child in scope is let in by its directory
 child_let_in : (limit : DepthLimit) (old new : Tree) (here : PathValue) (depth : Depth) (rest : List Component) (c : Component)
-    → stays_in_scope limit old new here depth (rest ++ c ∷ []) ≡ true
+    → stays_in_scope hides_nothing depth_below limit old new here depth (rest ++ c ∷ []) ≡ true
     → includes limit old new (depth_down limit here depth rest) (here ++ (rest ++ c ∷ [])) ≡ true
 child_let_in limit old new here depth [] c h = and_front (includes limit old new depth (here ++ c ∷ [])) true h
 child_let_in limit old new here depth (x ∷ rest) c h =
-    subst (λ (p : PathValue). includes limit old new (depth_down limit (here ++ x ∷ []) (own_or_inherited (depth_said limit (here ++ x ∷ [])) depth) rest) p ≡ true)
+    subst (λ (p : PathValue). includes limit old new (depth_down limit (here ++ x ∷ []) (own_or_inherited depth_below (depth_said limit (here ++ x ∷ [])) depth) rest) p ≡ true)
     (append_assoc here (x ∷ []) (rest ++ c ∷ []))
-    (child_let_in limit old new (here ++ x ∷ []) (own_or_inherited (depth_said limit (here ++ x ∷ [])) depth) rest c
-    (and_right (includes limit old new depth (here ++ x ∷ [])) (stays_in_scope limit old new (here ++ x ∷ []) (own_or_inherited (depth_said limit (here ++ x ∷ [])) depth) (rest ++ c ∷ [])) h))
+    (child_let_in limit old new (here ++ x ∷ []) (own_or_inherited depth_below (depth_said limit (here ++ x ∷ [])) depth) rest c
+    (and_right (includes limit old new depth (here ++ x ∷ [])) (stays_in_scope hides_nothing depth_below limit old new (here ++ x ∷ []) (own_or_inherited depth_below (depth_said limit (here ++ x ∷ [])) depth) (rest ++ c ∷ [])) h))
 
 rest_more : (p top : PathValue) (c : Component) → is_at_or_under p top ≡ true
     → drop (length top) (p ++ c ∷ []) ≡ drop (length top) p ++ c ∷ []
@@ -57,14 +56,14 @@ rest_more p top c up =
     ∙ rest_append top (drop (length top) p ++ c ∷ [])
 
 let_in : (limit : DepthLimit) (old new : Tree) (top p : PathValue) (c : Component) → is_at_or_under p top ≡ true
-    → scope_of limit old new top (p ++ c ∷ []) ≡ true
+    → scope_of hides_nothing depth_below limit old new top (p ++ c ∷ []) ≡ true
     → includes limit old new (depth_down limit top (top_limit limit top) (drop (length top) p)) (p ++ c ∷ []) ≡ true
 let_in limit old new top p c up h =
     subst (λ (q : PathValue). includes limit old new (depth_down limit top (top_limit limit top) (drop (length top) p)) q ≡ true)
     (sym (append_assoc top (drop (length top) p) (c ∷ [])) ∙ sym (ap (λ q. q ++ c ∷ []) (under_is p top up)))
     (child_let_in limit old new top (top_limit limit top) (drop (length top) p) c
-    (sym (ap (stays_in_scope limit old new top (top_limit limit top)) (rest_more p top c up))
-    ∙ and_right (is_at_or_under (p ++ c ∷ []) top) (stays_in_scope limit old new top (top_limit limit top) (drop (length top) (p ++ c ∷ []))) h))
+    (sym (ap (stays_in_scope hides_nothing depth_below limit old new top (top_limit limit top)) (rest_more p top c up))
+    ∙ and_right (is_at_or_under (p ++ c ∷ []) top) (stays_in_scope hides_nothing depth_below limit old new top (top_limit limit top) (drop (length top) (p ++ c ∷ []))) h))
 
 if_not : (b : Bool) → (b ≡ true → ⊥) → b ≡ false
 if_not true h = absurd (h refl)

@@ -82,8 +82,8 @@ decided c report p = by (stale_in c report p) refl (alike_or_not (old_tree c rep
   where
     by : (b : Bool) → stale_in c report p ≡ b → AreUnlike (old_tree c report p) (new_tree c report p) ⊎ AreLike (old_tree c report p) (new_tree c report p) → IsDecided (drive_trees c report) p
     by true stale any = inl (inr stale)
-    by false fresh (inl unlike) = inl (inl unlike)
-    by false fresh (inr like) = inr (record { node = like.0; created = like.1; fresh = fresh })
+    by false quiet (inl unlike) = inl (inl unlike)
+    by false quiet (inr like) = inr (record { node = like.0; created = like.1; quiet = quiet })
 
 -- ---- names, each once
 

@@ -1,21 +1,22 @@
 -- The plan of a drive.
 use Rattle.std.proofs.Common.{◌≡◌, ◌==◌, ◌+◌, ◌++◌, not, option_map, Bool, true, false, cond, ◌&&◌, List, [], ◌∷◌, length, drop, Option, Some, None, Ok, refl}
-use Rattle.std.proofs.{Common.{sym, ap, ◌∙◌, subst}, lemmas.Bool.false≢true, lemmas.List.append-nil}
+use Rattle.std.proofs.{Common.{sym, ap, ◌∙◌, subst, if◌then◌else◌}, lemmas.Bool.false≢true, lemmas.List.append-nil}
 use Rattle.drive_rules.proofs.Joined.{or_right}
-use Rattle.std.specs.Prelude.{ok_or, IsSomeAnd, IsTrue}
-use Rattle.svnpath.specs.{PathLaws.same_path_refl, Paths.{is_at_or_under, PathValue, same_path}}
+use Rattle.std.specs.Prelude.{ok_or, is_some, IsSomeAnd, IsTrue}
+use Rattle.svnpath.specs.{PathLaws.{same_path_is, same_path_refl}, Paths.{is_at_or_under, PathValue, same_path}}
 use Rattle.refusals.specs.declared.Refusal.TheVariants as refusals
 use Rattle.repo_api.specs.{Soundness.AreTrees, States.{RepoState, trees_in}, Trees.{is_directory, is_directory_there}, declared.entry.Entry.Entry}
-use Rattle.drive_rules.specs.{Places.is_in_directory, Scopes.{scope_of, under}}
+use Rattle.drive_rules.specs.{Places.is_in_directory, Drives.IsInBoth, Scopes.{below, depth_below, hides_nothing, scope_of, under}}
 use Rattle.drive_wire.specs.Sent.{seen_by}
 use Rattle.drive_news.specs.News.{own_steps_of}
 use Rattle.reporter.specs.{Left.{IsRootPlan, IsTopPlan}, Nesting.AreNested, Visits.IsRightPlan, Walks.BothHold, declared.visit.Visit.Visit}
 use Rattle.reporter.specs.declared.visit.Visit.TheVariants.{Open}
 use Rattle.drive_reports.proofs.Drives.{both_hold}
 use Rattle.drive_reports.specs.{Refusing.{OpenState, ◌>>=◌, ok_if, has_goal, has_anchor, finish_root}, Reported.{ReportedEntry, reported_entries}}
-use Rattle.drive_reports.specs.Targets.{WholeReport, client_tree, drive_scope, limit_of, target_tree, reported_tree, old_tree, new_tree, stale_in}
+use Rattle.drive_reports.specs.Targets.{WholeReport, client_tree, drive_scope, limit_of, target_tree, reported_tree, is_apart, old_tree, new_tree, stale_in}
 use Rattle.drive_reports.specs.declared.report.ReportRoot.{ReportRoot}
 use Rattle.drive_reports.specs.Reported as reported
+use Rattle.small_rules.specs.Going.{goes}
 use Rattle.drive_sides.specs.Plans.{IsPlan, drive_trees, whole}
 
 -- ---- what is known of a report that has come to its end
@@ -47,7 +48,7 @@ both_anchors c report root h top =
 -- the root stands on both sides where there is no target
 scope_root : (c : RepoState) (report : OpenState) (root : ReportRoot) → report.ask.target ≡ [] → drive_scope c (whole report root) [] ≡ true
 scope_root c report root is =
-    ap (λ (t : PathValue). scope_of (limit_of (client_tree c (whole report root)) root report.ask.depth) (reported_entries (client_tree c (whole report root))) (target_tree c report.ask) t []) is
+    ap (λ (t : PathValue). scope_of hides_nothing depth_below (limit_of (client_tree c (whole report root)) root report.ask.depth) (reported_entries (client_tree c (whole report root))) (target_tree c report.ask) t []) is
 
 same_root : (target : PathValue) → target ≡ [] → same_path target [] ≡ true
 same_root target is = ap (λ t. same_path t []) is
@@ -75,15 +76,51 @@ directory_of (Some e) h = h
 -- ---- plans
 
 abbrev pub IsRightFor : RepoState → WholeReport → PathValue → List Visit → Type 0
-IsRightFor c report top visits = IsRightPlan (seen_by report.ask.purpose) (under top) (stale_in c report) (old_tree c report) (new_tree c report) (own_steps_of c report) visits
+IsRightFor c report top visits = IsRightPlan (seen_by report.ask.purpose) (under top) (stale_in c report) (is_apart c report) (old_tree c report) (new_tree c report) (own_steps_of c report) visits
 
-pub both_sides : (c : RepoState) (report : WholeReport) → AreTrees c.revisions → BothHold (old_tree c report) (new_tree c report) report.ask.target
-both_sides c report trees = record { old_holds = (both_hold c report trees).0; new_holds = (both_hold c report trees).1 }
+-- a directory on both sides stays
+pub both_stay : (o n : Option Entry) → IsSomeAnd o (λ e. IsTrue (is_directory e)) → IsSomeAnd n (λ e. IsTrue (is_directory e)) → goes o n ≡ false
+both_stay None n h k = refl
+both_stay (Some x) None h k = absurd k
+both_stay (Some x) (Some y) h k = bools (is_directory x) (is_directory y) h k
+  where
+    bools : (a b : Bool) → a ≡ true → b ≡ true → (if a then not b else b) ≡ false
+    bools true true e f = refl
+    bools true false e f = absurd (false≢true f)
+    bools false b e f = absurd (false≢true e)
+
+-- what stays on both sides is of one kind
+one_kind : (o n : Option Entry) → is_some o ≡ true → is_some n ≡ true → goes o n ≡ false → IsSomeAnd o (λ e. IsSomeAnd n (λ f. is_directory e ≡ is_directory f))
+one_kind None n a b s = absurd (false≢true a)
+one_kind (Some x) None a b s = absurd (false≢true b)
+one_kind (Some x) (Some y) a b s = bools (is_directory x) (is_directory y) s
+  where
+    bools : (a b : Bool) → (if a then not b else b) ≡ false → a ≡ b
+    bools true true h = refl
+    bools true false h = absurd (false≢true (sym h))
+    bools false true h = absurd (false≢true (sym h))
+    bools false false h = refl
+
+pub both_sides : (c : RepoState) (report : WholeReport) → AreTrees c.revisions → BothHold (is_apart c report) (old_tree c report) (new_tree c report) report.ask.target
+both_sides c report trees = record {
+  old_holds = (both_hold c report trees).0;
+  new_holds = (both_hold c report trees).1;
+  of_one_kind = λ q at both stays. one_kind (old_tree c report q) (new_tree c report q) both.0 both.1 stays;
+  all_apart = λ q x at a up both. by q x at a up both (same_path q x) refl;
+}
+  where
+    by : (q x : PathValue) → is_at_or_under q report.ask.target ≡ true → is_apart c report q ≡ true → is_at_or_under x q ≡ true → IsInBoth (old_tree c report) (new_tree c report) x → (b : Bool) → same_path q x ≡ b → is_apart c report x ≡ true
+    by q x at a up both true same = subst (λ y. is_apart c report y ≡ true) (same_path_is q x same) a
+    by q x at a up both false other =
+        absurd (false≢true (sym (both_stay (old_tree c report q) (new_tree c report q) ((both_hold c report trees).0 q x at low both.0) ((both_hold c report trees).1 q x at low both.1)) ∙ a))
+      where
+        low : below q x ≡ true
+        low = ap (λ b. b && not (same_path q x)) up ∙ ap (λ b. true && not b) other
 
 -- of the whole tree
 pub root_plan : (c : RepoState) (report : WholeReport) (visits : List Visit) → AreTrees c.revisions → report.ask.target ≡ [] → IsRootPlan (drive_trees c report) visits → IsPlan c report visits
 root_plan c report visits trees is plan = record {
-  right = subst (λ (t : PathValue). IsRightFor c report t (cond (same_path t []) (Open [] true ∷ visits) visits)) (sym is) (plan.right (subst (BothHold (old_tree c report) (new_tree c report)) is (both_sides c report trees)));
+  right = subst (λ (t : PathValue). IsRightFor c report t (cond (same_path t []) (Open [] true ∷ visits) visits)) (sym is) (plan.right (subst (BothHold (is_apart c report) (old_tree c report) (new_tree c report)) is (both_sides c report trees)));
   nests = subst (λ (t : PathValue). AreNested (new_tree c report) t [] visits) (sym is) plan.nests;
 }
 

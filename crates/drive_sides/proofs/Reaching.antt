@@ -4,7 +4,7 @@ use Rattle.std.proofs.{Common.{drop, refl, sym, ap, ◌∙◌}, lemmas.Bool.fals
 use Rattle.svnpath.specs.Paths.{Component, is_at_or_under, PathValue}
 use Rattle.repo_api.specs.{States.{RepoState, trees_in}, Trees.Tree, declared.entry.Entry.Entry}
 use Rattle.drive_rules.specs.declared.depth.Depth.{Depth}
-use Rattle.drive_rules.specs.Scopes.{depth_below, depth_said, DepthLimit, includes, own_or_inherited, scope_of, stays_in_scope, top_limit}
+use Rattle.drive_rules.specs.Scopes.{depth_below, depth_said, DepthLimit, hides_nothing, includes, own_or_inherited, scope_of, stays_in_scope, top_limit}
 use Rattle.drive_rules.specs.{Scopes.DepthLimit.{Given, Reported}, declared.depth.Depth.TheVariants.{Empty, Files, Immediates, Infinity}}
 use Rattle.std.specs.{Prelude.{Option, Some, None, cond, fold, option_map, option_and_then}, List.list_any, Option.option_map_or}
 use Rattle.drive_reports.specs.Reported.{ReportedEntry, ReportedTree, reported_entries, reported_as, top_entry, left_by, in_subtree, in_graft, with_graft}
@@ -14,28 +14,28 @@ use Rattle.drive_sides.specs.Depths.{FollowsWholeReport}
 use Rattle.drive_rules.proofs.Joined.{or_false}
 use Rattle.drive_reports.specs.declared.ask.DepthAsked.TheVariants as asks
 
-all_reached : (old new : Tree) (here : PathValue) (names : List Component) → stays_in_scope (Given Infinity) old new here Infinity names ≡ true
+all_reached : (old new : Tree) (here : PathValue) (names : List Component) → stays_in_scope hides_nothing depth_below (Given Infinity) old new here Infinity names ≡ true
 all_reached old new here [] = refl
 all_reached old new here (c ∷ names) = all_reached old new (here ++ c ∷ []) names
 
 -- a drive to the end is of all that is at or under its top
-pub all_in_scope : (old new : Tree) (top q : PathValue) → is_at_or_under q top ≡ true → scope_of (Given Infinity) old new top q ≡ true
-all_in_scope old new top q up = ap (λ b. b && stays_in_scope (Given Infinity) old new top Infinity (drop (length top) q)) up ∙ all_reached old new top (drop (length top) q)
+pub all_in_scope : (old new : Tree) (top q : PathValue) → is_at_or_under q top ≡ true → scope_of hides_nothing depth_below (Given Infinity) old new top q ≡ true
+all_in_scope old new top q up = ap (λ b. b && stays_in_scope hides_nothing depth_below (Given Infinity) old new top Infinity (drop (length top) q)) up ∙ all_reached old new top (drop (length top) q)
 
 -- ---- one name after another
 
 -- so far down nothing has left the scope
 abbrev pub IsSoFar : DepthLimit → Tree → Tree → PathValue → PathValue → PathValue → Depth → List Component → Type 0
-IsSoFar limit old new top q here depth names = stays_in_scope limit old new top (top_limit limit top) (drop (length top) q) ≡ stays_in_scope limit old new here depth names
+IsSoFar limit old new top q here depth names = stays_in_scope hides_nothing depth_below limit old new top (top_limit limit top) (drop (length top) q) ≡ stays_in_scope hides_nothing depth_below limit old new here depth names
 
 pub next_name : (names : List Component) (i : ℕ) (x : Component) → i < length names → x ≡ get_or names i x → drop i names ≡ x ∷ drop (i + 1) names
 next_name names i x h is = (rw (add-one, drop-cons names i x) refl) ∙ ap (λ y. y ∷ drop (i + 1) names) (sym is)
 
 next_step : (limit : DepthLimit) (old new : Tree) (here child : PathValue) (depth : Depth) (names : List Component) (i : ℕ) (x : Component) → i < length names → x ≡ get_or names i x → child ≡ here ++ x ∷ []
-    → stays_in_scope limit old new here depth (drop i names) ≡ (includes limit old new depth child && stays_in_scope limit old new child (own_or_inherited (depth_said limit child) depth) (drop (i + 1) names))
+    → stays_in_scope hides_nothing depth_below limit old new here depth (drop i names) ≡ (includes limit old new depth child && stays_in_scope hides_nothing depth_below limit old new child (own_or_inherited depth_below (depth_said limit child) depth) (drop (i + 1) names))
 next_step limit old new here child depth names i x lt is child_is =
-    ap (stays_in_scope limit old new here depth) (next_name names i x lt is)
-    ∙ ap (λ p. includes limit old new depth p && stays_in_scope limit old new p (own_or_inherited (depth_said limit p) depth) (drop (i + 1) names)) (sym child_is)
+    ap (stays_in_scope hides_nothing depth_below limit old new here depth) (next_name names i x lt is)
+    ∙ ap (λ p. includes limit old new depth p && stays_in_scope hides_nothing depth_below limit old new p (own_or_inherited depth_below (depth_said limit p) depth) (drop (i + 1) names)) (sym child_is)
 
 pub was_true : (b : Bool) → not b ≡ false → b ≡ true
 was_true true h = refl
@@ -43,19 +43,19 @@ was_true false h = absurd (false≢true (sym h))
 
 pub stops : (limit : DepthLimit) (old new : Tree) (top q here child : PathValue) (depth : Depth) (names : List Component) (i : ℕ) (x : Component) (b : Bool) → is_at_or_under q top ≡ true
     → IsSoFar limit old new top q here depth (drop i names) → i < length names → x ≡ get_or names i x → child ≡ here ++ x ∷ [] → b ≡ includes limit old new depth child → b ≡ false
-    → false ≡ scope_of limit old new top q
+    → false ≡ scope_of hides_nothing depth_below limit old new top q
 stops limit old new top q here child depth names i x b up far lt is child_is lets none =
-    sym (ap (λ u. u && stays_in_scope limit old new top (top_limit limit top) (drop (length top) q)) up
+    sym (ap (λ u. u && stays_in_scope hides_nothing depth_below limit old new top (top_limit limit top) (drop (length top) q)) up
     ∙ far ∙ next_step limit old new here child depth names i x lt is child_is
-    ∙ ap (λ u. u && stays_in_scope limit old new child (own_or_inherited (depth_said limit child) depth) (drop (i + 1) names)) (sym lets ∙ none))
+    ∙ ap (λ u. u && stays_in_scope hides_nothing depth_below limit old new child (own_or_inherited depth_below (depth_said limit child) depth) (drop (i + 1) names)) (sym lets ∙ none))
 
 pub goes_on : (limit : DepthLimit) (old new : Tree) (top q here child : PathValue) (depth next : Depth) (names : List Component) (i : ℕ) (x : Component) (b : Bool)
     → IsSoFar limit old new top q here depth (drop i names) → i < length names → x ≡ get_or names i x → child ≡ here ++ x ∷ [] → b ≡ includes limit old new depth child → b ≡ true
-    → next ≡ own_or_inherited (depth_said limit child) depth → IsSoFar limit old new top q child next (drop (i + 1) names)
+    → next ≡ own_or_inherited depth_below (depth_said limit child) depth → IsSoFar limit old new top q child next (drop (i + 1) names)
 goes_on limit old new top q here child depth next names i x b far lt is child_is lets some next_is =
     far ∙ next_step limit old new here child depth names i x lt is child_is
-    ∙ ap (λ u. u && stays_in_scope limit old new child (own_or_inherited (depth_said limit child) depth) (drop (i + 1) names)) (sym lets ∙ some)
-    ∙ ap (λ d. stays_in_scope limit old new child d (drop (i + 1) names)) (sym next_is)
+    ∙ ap (λ u. u && stays_in_scope hides_nothing depth_below limit old new child (own_or_inherited depth_below (depth_said limit child) depth) (drop (i + 1) names)) (sym lets ∙ some)
+    ∙ ap (λ d. stays_in_scope hides_nothing depth_below limit old new child d (drop (i + 1) names)) (sym next_is)
 
 pub no_more : (names : List Component) (i : ℕ) → length names ≤ i → drop i names ≡ []
 no_more [] zero le = refl
@@ -64,14 +64,14 @@ no_more (x ∷ names) zero le = absurd (omega (le, arith))
 no_more (x ∷ names) (suc i) le = no_more names i (omega (le, arith))
 
 pub ends : (limit : DepthLimit) (old new : Tree) (top q here : PathValue) (depth : Depth) (names : List Component) (i : ℕ) → is_at_or_under q top ≡ true
-    → IsSoFar limit old new top q here depth (drop i names) → length names ≤ i → true ≡ scope_of limit old new top q
+    → IsSoFar limit old new top q here depth (drop i names) → length names ≤ i → true ≡ scope_of hides_nothing depth_below limit old new top q
 ends limit old new top q here depth names i up far le =
-    sym (ap (λ u. u && stays_in_scope limit old new top (top_limit limit top) (drop (length top) q)) up
-    ∙ far ∙ ap (stays_in_scope limit old new here depth) (no_more names i le))
+    sym (ap (λ u. u && stays_in_scope hides_nothing depth_below limit old new top (top_limit limit top) (drop (length top) q)) up
+    ∙ far ∙ ap (stays_in_scope hides_nothing depth_below limit old new here depth) (no_more names i le))
 
 pub whole_scope : (c : RepoState) (report : WholeReport) (q : PathValue) → report.ask.depth ≡ asks.Given Infinity → is_at_or_under q report.ask.target ≡ true → true ≡ drive_scope c report q
 whole_scope c report q is up =
-    sym (ap (λ d. scope_of (limit_of (client_tree c report) report.root d) (reported_entries (client_tree c report)) (target_tree c report.ask) report.ask.target q) is
+    sym (ap (λ d. scope_of hides_nothing depth_below (limit_of (client_tree c report) report.root d) (reported_entries (client_tree c report)) (target_tree c report.ask) report.ask.target q) is
     ∙ all_in_scope (reported_entries (client_tree c report)) (target_tree c report.ask) report.ask.target q up)
 
 -- ---- as deep as was reported, where everything was reported
@@ -131,42 +131,42 @@ deep_fold trees top had (g ∷ grafts) all deep =
     deep_fold trees top (with_graft trees top had g) grafts (deep_with trees top had g all each.0) each.1
 
 -- the depth of a directory that is had, or else this one
-deep_said : (had : ReportedTree) → HasAllDeep had → (q : PathValue) → own_or_inherited (reported_depth had q) Infinity ≡ Infinity
+deep_said : (had : ReportedTree) → HasAllDeep had → (q : PathValue) → own_or_inherited depth_below (reported_depth had q) Infinity ≡ Infinity
 deep_said had all q = by (had q) (all q)
   where
-    among : (b : Bool) (h : ReportedEntry) → h.depth ≡ Infinity → own_or_inherited (cond b (Some h.depth) None) Infinity ≡ Infinity
+    among : (b : Bool) (h : ReportedEntry) → h.depth ≡ Infinity → own_or_inherited depth_below (cond b (Some h.depth) None) Infinity ≡ Infinity
     among true h deep = deep
     among false h deep = refl
 
     by : (o : Option ReportedEntry) → depth_had o ≡ Infinity
-        → own_or_inherited (cond (has_directory o) (option_map (λ (h : ReportedEntry). h.depth) o) None) Infinity ≡ Infinity
+        → own_or_inherited depth_below (cond (has_directory o) (option_map (λ (h : ReportedEntry). h.depth) o) None) Infinity ≡ Infinity
     by None deep = refl
     by (Some h) deep = among (has_directory (Some h)) h deep
 
 -- the top too
-deep_top : (said : PathValue → Option Depth) (depth : Depth) (top : PathValue) → own_or_inherited (said top) Infinity ≡ Infinity
+deep_top : (said : PathValue → Option Depth) (depth : Depth) (top : PathValue) → own_or_inherited depth_below (said top) Infinity ≡ Infinity
     → depth ≡ Infinity → top_limit (Reported said depth) top ≡ Infinity
 deep_top said depth top deep is = by (said top) refl deep
   where
-    by : (o : Option Depth) → said top ≡ o → own_or_inherited o Infinity ≡ Infinity → top_limit (Reported said depth) top ≡ Infinity
+    by : (o : Option Depth) → said top ≡ o → own_or_inherited depth_below o Infinity ≡ Infinity → top_limit (Reported said depth) top ≡ Infinity
     by None e d = rw e is
     by (Some x) e d = rw e d
 
 reached_as : (said : PathValue → Option Depth) (depth : Depth)
-    → ((q : PathValue) → own_or_inherited (said q) Infinity ≡ Infinity)
+    → ((q : PathValue) → own_or_inherited depth_below (said q) Infinity ≡ Infinity)
     → (old new : Tree) (here : PathValue) (names : List Component)
-    → stays_in_scope (Reported said depth) old new here Infinity names ≡ true
+    → stays_in_scope hides_nothing depth_below (Reported said depth) old new here Infinity names ≡ true
 reached_as said depth deep old new here [] = refl
 reached_as said depth deep old new here (c ∷ names) =
-    ap (λ d. stays_in_scope (Reported said depth) old new (here ++ c ∷ []) d names) (deep (here ++ c ∷ []))
+    ap (λ d. stays_in_scope hides_nothing depth_below (Reported said depth) old new (here ++ c ∷ []) d names) (deep (here ++ c ∷ []))
     ∙ reached_as said depth deep old new (here ++ c ∷ []) names
 
 pub whole_as_reported : (c : RepoState) (report : WholeReport) (q : PathValue) → FollowsWholeReport report
     → is_at_or_under q report.ask.target ≡ true → true ≡ drive_scope c report q
 whole_as_reported c report q follows up =
-    sym (ap (λ d. scope_of (limit_of had report.root d) old new top q) follows.0
-    ∙ ap (λ b. b && stays_in_scope limit old new top (top_limit limit top) (drop (length top) q)) up
-    ∙ ap (λ d. stays_in_scope limit old new top d (drop (length top) q))
+    sym (ap (λ d. scope_of hides_nothing depth_below (limit_of had report.root d) old new top q) follows.0
+    ∙ ap (λ b. b && stays_in_scope hides_nothing depth_below limit old new top (top_limit limit top) (drop (length top) q)) up
+    ∙ ap (λ d. stays_in_scope hides_nothing depth_below limit old new top d (drop (length top) q))
     (deep_top (reported_depth had) report.root.depth top (deep_said had deep top) (to_the_end report.root.depth follows.1))
     ∙ reached_as (reported_depth had) report.root.depth (deep_said had deep) old new top (drop (length top) q))
   where

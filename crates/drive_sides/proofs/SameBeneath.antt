@@ -1,17 +1,29 @@
 -- Where both sides are the same.
 use Rattle.drive_sides.specs.{Depths.IsWhole, Pairs.{IsOfAll, IsPairAt}, Plans.drive_trees, declared.pairs.EntryPair.EntryPair}
-use Rattle.std.proofs.Common.{◌≡◌, ℕ, Bool, true, false, cond, ◌&&◌, ◌||◌, List, [], ◌∷◌, ◌++◌, length, drop, Option, Some, None, refl, sym, ap, ◌∙◌, subst}
-use Rattle.std.proofs.{Common.option_map, lemmas.List.append_assoc}
+use Rattle.std.proofs.Common.{◌≡◌, ℕ, Bool, true, false, cond, ◌&&◌, ◌||◌, not, if◌then◌else◌, List, [], ◌∷◌, ◌++◌, length, drop, Option, Some, None, refl, sym}
+use Rattle.std.proofs.{Common.{ap, ◌∙◌, subst, option_map}, lemmas.List.append_assoc}
 use Rattle.std.specs.{List.list_any, Prelude.{IfSome, option_and_then, option_copied}}
 use Rattle.svnpath.specs.{PathLaws.{rest_append, under_append, under_is}, Paths.{Component, is_at_or_under, PathValue}}
-use Rattle.repo_api.specs.{Readings.IsSameAt, States.{RepoState, trees_in}, Trees.Tree, declared.entry.Entry.Entry}
+use Rattle.small_rules.specs.Going.{goes}
+use Rattle.repo_api.specs.{Readings.IsSameAt, States.{RepoState, trees_in}, Trees.{is_directory, Tree}, declared.entry.Entry.Entry}
 use Rattle.drive_rules.proofs.{Entries.under_more, Joined.or_false}
-use Rattle.drive_rules.specs.Scopes.{below, depth_below}
+use Rattle.drive_rules.specs.{Drives.IsInBoth, Scopes.{below, depth_below}}
 use Rattle.reporter.specs.Walks.{AreAlike, IsSamePair}
 use Rattle.drive_reports.proofs.Whole.{in_whole}
-use Rattle.drive_reports.specs.{Places.{in_place, is_grafted_over, reported_subtree}, Reported.{ReportedEntry, reported_entries, left_by, reported_as, top_entry}}
-use Rattle.drive_reports.specs.Targets.{WholeReport, client_tree, drive_scope, goal_path, is_stale, is_stale_token, new_tree, old_tree, stale_in, target_tree}
-use Rattle.drive_reports.specs.{declared.ask.DriveAsk.DriveAsk, declared.graft.Graft.Graft, declared.graft.Subtree.Subtree, declared.reported.ReportedPlace.ReportedPlace}
+use Rattle.drive_reports.specs.Places.{in_place, is_grafted_over, reported_subtree}
+use Rattle.drive_reports.specs.{Reported.{ReportedEntry, reported_entries, left_by, reported_as, top_entry}, Targets.{WholeReport, client_tree, drive_scope}}
+use Rattle.drive_reports.specs.Targets.{goal_path, is_apart, is_stale, is_stale_token, new_tree, old_tree, stale_in, target_tree}
+use Rattle.drive_reports.specs.{declared.ask.DriveAsk.DriveAsk, declared.graft.Graft.Graft, declared.graft.Subtree.Subtree}
+use Rattle.drive_reports.specs.declared.reported.ReportedPlace.{ReportedPlace}
+
+-- an entry stays where the same is to stand
+itself_stays : (e : Option Entry) → goes e e ≡ false
+itself_stays None = refl
+itself_stays (Some x) = by (is_directory x)
+  where
+    by : (b : Bool) → (if b then not b else b) ≡ false
+    by true = refl
+    by false = refl
 
 none_over : (grafts : List Graft) (p q : PathValue) → list_any (λ (g : Graft). below p g.path) grafts ≡ false → is_grafted_over grafts p q ≡ false
 none_over [] p q none = refl
@@ -77,7 +89,9 @@ module _ (s : RepoState) (report : WholeReport) (p : PathValue) (place : Reporte
 
   -- where a place is the same as what is to be there, and the client has all of it, with no token
   pub alike : IsSameAt s place.revision place.path report.ask.revision (goal_path report.ask p) → AreAlike (drive_trees s report) p
-  alike equal q under = subst (λ x. (old_tree s report x ≡ new_tree s report x) × (stale_in s report x ≡ false)) (sym (under_is q p under)) (same (drop (length p) q), fresh_at (drop (length p) q))
+  alike equal q under =
+      subst (λ x. (old_tree s report x ≡ new_tree s report x) × (stale_in s report x ≡ false) × (IsInBoth (old_tree s report) (new_tree s report) x → is_apart s report x ≡ false)) (sym (under_is q p under))
+      (same (drop (length p) q), fresh_at (drop (length p) q), λ both. ap (λ e. goes e (new_tree s report (p ++ drop (length p) q))) (same (drop (length p) q)) ∙ itself_stays (new_tree s report (p ++ drop (length p) q)))
     where
       same : (rest : List Component) → old_tree s report (p ++ rest) ≡ new_tree s report (p ++ rest)
       same rest = ap (λ e. cond (drive_scope s report (p ++ rest)) e None) (client_at rest ∙ equal rest ∙ sym (target_at rest))
@@ -101,7 +115,13 @@ module _ (s : RepoState) (report : WholeReport) (p : PathValue) (place : Reporte
 pub same_pair : (s : RepoState) (report : WholeReport) (p q : PathValue) (one two : EntryPair) → IsPairAt s report p one → IsPairAt s report q two
     → IsSameAt s one.revision one.old two.revision two.old × IsSameAt s report.ask.revision one.new report.ask.revision two.new → IsSamePair (drive_trees s report) p q
 same_pair s report p q one two first second same rest =
-    (first.old rest ∙ same.0 rest ∙ sym (second.old rest), first.new rest ∙ same.1 rest ∙ sym (second.new rest), second.fresh rest)
+    (old, new, ap (λ e. goes e (new_tree s report (p ++ rest))) old ∙ ap (λ e. goes (old_tree s report (q ++ rest)) e) new, second.fresh rest)
+  where
+    old : old_tree s report (p ++ rest) ≡ old_tree s report (q ++ rest)
+    old = first.old rest ∙ same.0 rest ∙ sym (second.old rest)
+
+    new : new_tree s report (p ++ rest) ≡ new_tree s report (q ++ rest)
+    new = first.new rest ∙ same.1 rest ∙ sym (second.new rest)
 
 -- a pair that was made of a place, if it was
 pub pair_given : (s : RepoState) (report : WholeReport) (p : PathValue) (place : ReportedPlace)

@@ -5,10 +5,9 @@ use Rattle.repo_api.specs.States.{RepoState}
 use Rattle.drive_reports.specs.{Depths.{is_shallow, is_to_the_end}, Targets.{WholeReport, client_entries, drive_limit, drive_scope}}
 use Rattle.drive_reports.specs.{declared.ask.DepthAsked.DepthAsked, declared.ask.DepthAsked.TheVariants.{AsReported, Given}}
 use Rattle.drive_reports.specs.declared.reported.ReportedPlace.{ReportedPlace}
-use Rattle.drive_rules.specs.{Scopes.{depth_said, DepthLimit, own_or_inherited, top_limit}, declared.depth.Depth.Depth}
+use Rattle.drive_rules.specs.{Scopes.{depth_below, depth_said, DepthLimit, own_or_inherited, top_limit}, declared.depth.Depth.Depth}
 use Rattle.drive_rules.specs.declared.depth.Depth.TheVariants.{Empty, Files, Immediates, Infinity}
-use Rattle.drive_sides.specs.declared.reach.Reach.{Reach}
-use Rattle.drive_sides.specs.declared.reach.Reach.TheVariants.{NoChild, ChildHad, AnyChild}
+use Rattle.drive_sides.specs.{declared.reach.Reach.Reach, declared.reach.Reach.TheVariants.{NoChild, ChildHad, AnyChild}}
 
 -- as much is asked for as was reported, and everything was reported
 abbrev pub FollowsWholeReport : WholeReport → Type 0
@@ -29,7 +28,7 @@ abbrev pub depth_down : DepthLimit → PathValue → Depth → List Component �
 depth_down limit here depth [] = depth
 depth_down limit here depth (c ∷ rest) =
     let child = here ++ c ∷ [] in
-    depth_down limit child (own_or_inherited (depth_said limit child) depth) rest
+    depth_down limit child (own_or_inherited depth_below (depth_said limit child) depth) rest
 
 -- how deep a drive goes from a directory at or under its target
 abbrev pub depth_at : RepoState → WholeReport → PathValue → Depth

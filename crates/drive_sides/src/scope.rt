@@ -2,7 +2,7 @@
 ghost use Rattle.std.specs.Prelude.{◌≡◌, true, Option, IfOk};
 ghost use Rattle.svnpath.specs.Paths.{is_at_or_under};
 ghost use Rattle.repo_api.specs.{Kinds.kind_of, declared.entry.Entry.Entry};
-ghost use Rattle.drive_rules.specs.Scopes.{depth_said, includes, includes_child, keeps_reported, own_or_inherited, top_limit};
+ghost use Rattle.drive_rules.specs.Scopes.{depth_below, depth_said, includes, includes_child, keeps_reported, own_or_inherited, top_limit};
 ghost use Rattle.drive_reports.specs.Targets.{client_tree, drive_scope, reported_depth, drive_limit, client_entries, target_entries};
 ghost use Rattle.drive_sides.specs.{OnTrees.on_trees, Pairs.IsOfAll, Plans.whole, Depths.{depth_at, FollowsWholeReport, Reaches}};
 
@@ -28,7 +28,7 @@ fn includes_child(depth: Depth, old: NodeKind, new: NodeKind) -> bool
 
 /// Gives the depth that was said of a directory, or else what its parent's depth leaves it.
 fn own_or_inherited(said: Option<Depth>, above: Depth) -> Depth
-    ensures { result ≡ own_or_inherited said above }
+    ensures { result ≡ own_or_inherited depth_below said above }
 {
     match said {
         Some(depth) => depth,

@@ -9,6 +9,7 @@ use byte_string::ByteString;
 use drive_news::{Place, entries_differ};
 use repo_api::{NodeKind, Repository};
 use reporter::{Kinds, Sides};
+use small_rules::goes;
 use std::alloc::{AllocError, Global};
 use std::collections::BTreeSet;
 use svnpath::Path;
@@ -116,11 +117,15 @@ impl<'a, R: Repository> Sides for TwoTrees<'a, R> {
             return Ok(Kinds {
                 old: NodeKind::Absent,
                 new: NodeKind::Absent,
+                is_apart: false,
             });
         }
+        let old = self.client_kind(alloc, path)?;
+        let new = self.target_kind(alloc, path)?;
         Ok(Kinds {
-            old: self.client_kind(alloc, path)?,
-            new: self.target_kind(alloc, path)?,
+            old,
+            new,
+            is_apart: goes(old, new),
         })
     }
 

@@ -7,7 +7,7 @@ use Rattle.svnpath.specs.Paths.{Component, is_at_or_under, PathValue, same_compo
 use Rattle.repo_api.specs.{Trees.{is_directory, Tree}, declared.entry.Entry.Entry}
 use Rattle.drive_rules.specs.Scopes.{below, HoldsTogether}
 use Rattle.drive_rules.proofs.{Joined.{or_cases, or_left, or_right, or_false}, Entries.{below_under, below_apart}}
-use Rattle.reporter.specs.Walks.{any_under, AreApart, IsChild, AreChildren, AreAll}
+use Rattle.reporter.specs.Walks.{any_under, AreDisjoint, IsChild, AreChildren, AreAll}
 use Rattle.reporter.proofs.{Visiting.false_or, Planning.{one_child, child_below}}
 
 abbrev pub is_among : List Component → Component → Bool
@@ -33,16 +33,16 @@ none_under_names p c (d ∷ ds) q u out =
     ap (λ b. b || any_under (children_of p ds) q) (false_or (is_at_or_under q (p ++ d ∷ [])) (λ v. false≢true (sym (or_false (same_component c d) (is_among ds c) out).0 ∙ one_name p c d q u v)))
     ∙ none_under_names p c ds q u (or_false (same_component c d) (is_among ds c) out).1
 
-children_apart : (p : PathValue) (cs : List Component) → AreDistinct cs → AreApart (children_of p cs)
-children_apart p [] distinct = tt
-children_apart p (c ∷ cs) distinct = (λ q u. none_under_names p c cs q u distinct.0, children_apart p cs distinct.1)
+children_disjoint : (p : PathValue) (cs : List Component) → AreDistinct cs → AreDisjoint (children_of p cs)
+children_disjoint p [] distinct = tt
+children_disjoint p (c ∷ cs) distinct = (λ q u. none_under_names p c cs q u distinct.0, children_disjoint p cs distinct.1)
 
 children_each : (p : PathValue) (cs : List Component) → All (IsChild p) (children_of p cs)
 children_each p [] = All-nil (IsChild p)
 children_each p (c ∷ cs) = All-cons (IsChild p) (p ++ c ∷ []) (children_of p cs) (c, refl) (children_each p cs)
 
 pub children_are : (p : PathValue) (cs : List Component) → AreDistinct cs → AreChildren p (children_of p cs)
-children_are p cs distinct = record { each = children_each p cs; apart = children_apart p cs distinct }
+children_are p cs distinct = record { each = children_each p cs; disjoint = children_disjoint p cs distinct }
 
 among_under : (p : PathValue) (c : Component) (rest : List Component) (cs : List Component) → is_among cs c ≡ true → any_under (children_of p cs) (p ++ c ∷ rest) ≡ true
 among_under p c rest [] h = absurd (false≢true h)

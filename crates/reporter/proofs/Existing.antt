@@ -2,13 +2,13 @@
 use Rattle.std.proofs.Common.{arith, ◌≡◌, ◌<◌, ◌≤◌, ◌+◌, ℕ, zero, suc, Bool, true, false, List, [], ◌∷◌, ◌++◌, length, refl, sym, subst, ◌⊎◌, inl, inr}
 use Rattle.std.proofs.{lemmas.Bool.false≢true, lemmas.List.Elements.{All-head, All-tail}}
 use Rattle.std.specs.Prelude.{is_some, All}
-use Rattle.svnpath.specs.{PathLaws.under_itself, Paths.PathValue}
+use Rattle.svnpath.specs.Paths.{PathValue}
 use Rattle.repo_api.specs.Trees.{is_directory_there}
 use Rattle.reporter.specs.{declared.unvisited.Unvisited.Unvisited, declared.visit.Visit.Visit, declared.visit.Visit.TheVariants.{Open, Add}}
 use Rattle.reporter.specs.{Left.{ArePlansOf, IsLeft, IsPlanBelow, IsPlanOf, behind}, Nesting.entry_visits}
-use Rattle.reporter.specs.Walks.{WalkedTrees, IsChild, IsDue, IsListed, IsSame, IsShorter, deletes_of}
-use Rattle.small_rules.specs.Going.{goes}
-use Rattle.reporter.proofs.{Planning.same_length, Plans.{Leads, absent, added, below_directory, below_file, comes, opened, same, staying}, Visiting.reason_of}
+use Rattle.reporter.specs.Walks.{WalkedTrees, IsChild, IsDue, IsListed, IsSame, IsShorter, deletes_of, goes_at}
+use Rattle.reporter.proofs.{Planning.same_length, Plans.{Leads, absent, added, below_directory, below_file, comes, opened, same, staying}, Reasons.due_reason}
+use Rattle.reporter.proofs.Visiting.{reason_of}
 
 -- something is to be said of an entry itself, or it is the same
 abbrev pub IsDecided : WalkedTrees → PathValue → Type 0
@@ -31,7 +31,7 @@ module _ (t : WalkedTrees) (bound : ℕ) (ends : IsShorter t.new bound) (leads :
   abbrev Below : Bool → PathValue → Type 0
   Below anew p = (vs : List Visit) × (is_directory_there (t.new p) ≡ false → vs ≡ []) × IsPlanBelow t anew p vs
 
-  below_plan : (n : ℕ) (anew : Bool) (p : PathValue) → ((x : PathValue) → bound ≤ length x + n → Plan anew x) → bound ≤ length p + suc n → is_some (t.new p) ≡ true → (anew ≡ false → goes (t.old p) (t.new p) ≡ false) → Below anew p
+  below_plan : (n : ℕ) (anew : Bool) (p : PathValue) → ((x : PathValue) → bound ≤ length x + n → Plan anew x) → bound ≤ length p + suc n → is_some (t.new p) ≡ true → (anew ≡ false → goes_at t p ≡ false) → Below anew p
   below_plan n anew p plan short stands stays = by (is_directory_there (t.new p)) refl
     where
       by : (b : Bool) → is_directory_there (t.new p) ≡ b → (vs : List Visit) × (b ≡ false → vs ≡ []) × IsPlanBelow t anew p vs
@@ -39,18 +39,18 @@ module _ (t : WalkedTrees) (bound : ℕ) (ends : IsShorter t.new bound) (leads :
       by true directory =
           let l : (xs : List PathValue) × IsListed t p xs = listed p in
           let e : (vs : List Visit) × ArePlansOf t anew l.0 vs = each_plan n anew p l.0 plan short l.1.children.each in
-          (deletes_of anew t.old t.new l.0 ++ e.0, λ f. absurd (false≢true (sym f)), below_directory t anew p l.0 e.0 l.1 e.1)
+          (deletes_of anew t.apart t.old t.new l.0 ++ e.0, λ f. absurd (false≢true (sym f)), below_directory t anew p l.0 e.0 l.1 e.1)
 
   entry_plan : (n : ℕ) (anew : Bool) (p : PathValue) → ((c : Bool) (x : PathValue) → bound ≤ length x + n → Plan c x) → bound ≤ length p + suc n → is_some (t.new p) ≡ true → Plan anew p
   entry_plan n anew p plan short stands = by (comes t anew p) refl
     where
       opens : comes t anew p ≡ false → (b : Below false p) → IsDecided t p → Plan anew p
-      opens kept (vs, file, below) (inl due) = (entry_visits (is_directory_there (t.new p)) (Open p (is_directory_there (t.new p))) vs, opened t anew (is_directory_there (t.new p)) p vs leads kept stands refl file (λ sound. inr (p, under_itself p, due)) below)
+      opens kept (vs, file, below) (inl due) = (entry_visits (is_directory_there (t.new p)) (Open p (is_directory_there (t.new p))) vs, opened t anew (is_directory_there (t.new p)) p vs leads kept stands refl file (λ sound. due_reason t p due) below)
       opens kept ([], file, below) (inr is) = let stay = staying t anew p kept in ([], subst (λ b. IsPlanOf t b p []) (sym stay.0) (same t p stay.2 is below))
       opens kept (v ∷ vs, file, below) (inr is) = (
         entry_visits (is_directory_there (t.new p)) (Open p (is_directory_there (t.new p))) (v ∷ vs),
         opened t anew (is_directory_there (t.new p)) p (v ∷ vs) leads kept stands refl file
-            (λ sound. reason_of t.seen t.stale t.old t.new t.own p (v ∷ vs) (inr (inl (λ e. cc))) (below.nests p) (below.right sound)) below,
+            (λ sound. reason_of t.seen t.due t.apart t.old t.new t.own p (v ∷ vs) (inr (inl (λ e. cc))) (below.nests p) (below.right sound)) below,
       )
 
       by : (b : Bool) → comes t anew p ≡ b → Plan anew p

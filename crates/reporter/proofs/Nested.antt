@@ -7,8 +7,7 @@ use Rattle.repo_api.specs.{Trees.{is_directory_there, Tree}, declared.entry.Entr
 use Rattle.drive_rules.specs.Places.{is_in_directory}
 use Rattle.drive_rules.proofs.Joined.{or_left, and_both}
 use Rattle.reporter.specs.{declared.visit.Visit.Visit, declared.visit.Visit.TheVariants.{Delete, Close}}
-use Rattle.reporter.specs.{Nesting.{after_entry_visit, after_visit, walk, AreNested, entry_visits, stands_as}, Walks.{IsChild, going, deletes_of}}
-use Rattle.small_rules.specs.Going.{goes}
+use Rattle.reporter.specs.{Nesting.{after_entry_visit, after_visit, walk, AreNested, entry_visits, stands_as}, Walks.{IsChild, goes, going, deletes_of}}
 
 no_some : {X : Type 0} (x : X) → ◌≡◌ {A = Option X} None (Some x) → ⊥
 no_some x e = false≢true (ap is_some e)
@@ -62,11 +61,11 @@ child_inside top p x child =
     (and_both (is_at_or_under x p) (length x == length p + 1) (subst (λ y. is_at_or_under y p ≡ true) (sym child.1) (under_append p (child.0 ∷ [])))
     (eq-eqb (length x) (length p + 1) (ap length child.1 ∙ length-append p (child.0 ∷ []))))
 
-pub nested_deletes : (anew : Bool) (r t : Tree) (top p : PathValue) (xs : List PathValue) → All (IsChild p) xs → AreNested t top p (deletes_of anew r t xs)
-nested_deletes true r t top p xs each = nested_nothing t top p
-nested_deletes false r t top p [] each = nested_nothing t top p
-nested_deletes false r t top p (x ∷ xs) each = by (goes (r x) (t x)) (nested_deletes false r t top p xs (All-tail (IsChild p) x xs each))
+pub nested_deletes : (anew : Bool) (apart : PathValue → Bool) (r t : Tree) (top p : PathValue) (xs : List PathValue) → All (IsChild p) xs → AreNested t top p (deletes_of anew apart r t xs)
+nested_deletes true apart r t top p xs each = nested_nothing t top p
+nested_deletes false apart r t top p [] each = nested_nothing t top p
+nested_deletes false apart r t top p (x ∷ xs) each = by (goes (apart x) (r x) (t x)) (nested_deletes false apart r t top p xs (All-tail (IsChild p) x xs each))
   where
-    by : (b : Bool) → AreNested t top p (map Delete (going r t xs)) → AreNested t top p (map Delete (if b then x ∷ going r t xs else going r t xs))
-    by true rest = nested_delete t top p x (map Delete (going r t xs)) (child_inside top p x (All-head (IsChild p) x xs each)) rest
+    by : (b : Bool) → AreNested t top p (map Delete (going apart r t xs)) → AreNested t top p (map Delete (if b then x ∷ going apart r t xs else going apart r t xs))
+    by true rest = nested_delete t top p x (map Delete (going apart r t xs)) (child_inside top p x (All-head (IsChild p) x xs each)) rest
     by false rest = rest

@@ -2,34 +2,33 @@
 use Rattle.std.proofs.Common.{arith, ◌≡◌, ◌<◌, ℕ, zero, suc, Bool, true, false, ◌||◌, not, List, [], ◌∷◌, ◌++◌, length, get_or, refl, sym, ap, ◌∙◌, subst}
 use Rattle.std.proofs.{lemmas.Bool.false≢true, lemmas.List.append_assoc, lemmas.List.Elements.{All-head, All-tail}}
 use Rattle.std.specs.Prelude.{is_some, All}
-use Rattle.svnpath.specs.Paths.{is_at_or_under, PathValue}
+use Rattle.svnpath.specs.{PathLaws.under_itself, Paths.{is_at_or_under, PathValue}}
 use Rattle.repo_api.specs.Trees.{is_directory_there, Tree}
 use Rattle.drive_rules.specs.{Drives.IsRight, Scopes.under, Steps.Step}
 use Rattle.drive_rules.proofs.{Joined.{or_false, reach_named, joined, nothing}, Entries.{rescoped, under_more}}
 use Rattle.reporter.specs.{declared.visit.Visit.Visit, declared.visit.Visit.TheVariants.{Open, Add}, Left.{IsPlanOf, IsPlanBelow, IsEntry, ArePlansOf}}
 use Rattle.reporter.specs.{Nesting.{AreNested, entry_visit, entry_visits}, Visits.{IsRightPlan, plan_steps}, Walks.{WalkedTrees, any_under, BothHold}}
-use Rattle.reporter.specs.Walks.{HasReasonAt, IsListed, IsSame, AreApart, IsChild, AreAlike, LeadsOver, old_side, left_of, deletes_of}
-use Rattle.small_rules.specs.Going.{goes}
+use Rattle.reporter.specs.Walks.{HasReasonAt, IsListed, IsSame, AreDisjoint, IsChild, AreAlike, LeadsOver, goes_at, old_side, left_of, deletes_of}
 use Rattle.reporter.proofs.{Nested.{nested_nothing, nested_append, nested_deletes, nested_entry, child_inside}, Planning.{any_more, reseated, left_under}}
 use Rattle.reporter.proofs.Planning.{all_children, left_all, with_cuts, nothing_new, nothing_alike, nothing_below, child_sound, plan_steps_append, stays_gone}
-use Rattle.reporter.proofs.{Planning.{with_close, added_entry, not_false}, Visiting.{false_or, entry_anew, entry_opened, entry_same}}
+use Rattle.reporter.proofs.{Planning.{stays_together, with_close, added_entry, not_false}, Visiting.{false_or, entry_anew, entry_opened, entry_same}}
 
 -- an entry that is to stand there comes: anew with its directory, or where nothing of its kind stood
 abbrev pub comes : WalkedTrees → Bool → PathValue → Bool
-comes t anew p = anew || (not (is_some (t.old p)) || goes (t.old p) (t.new p))
+comes t anew p = anew || (not (is_some (t.old p)) || goes_at t p)
 
 abbrev pub Leads : WalkedTrees → Type 0
 Leads t = LeadsOver t.seen t.old t.new t.own
 
 -- what does not come stood there, and stays
-pub staying : (t : WalkedTrees) (anew : Bool) (p : PathValue) → comes t anew p ≡ false → (anew ≡ false) × (is_some (t.old p) ≡ true) × (goes (t.old p) (t.new p) ≡ false)
+pub staying : (t : WalkedTrees) (anew : Bool) (p : PathValue) → comes t anew p ≡ false → (anew ≡ false) × (is_some (t.old p) ≡ true) × (goes_at t p ≡ false)
 staying t anew p kept =
-    let one : (anew ≡ false) × ((not (is_some (t.old p)) || goes (t.old p) (t.new p)) ≡ false) = or_false anew (not (is_some (t.old p)) || goes (t.old p) (t.new p)) kept in
-    let two : (not (is_some (t.old p)) ≡ false) × (goes (t.old p) (t.new p) ≡ false) = or_false (not (is_some (t.old p))) (goes (t.old p) (t.new p)) one.1 in
+    let one : (anew ≡ false) × ((not (is_some (t.old p)) || goes_at t p) ≡ false) = or_false anew (not (is_some (t.old p)) || goes_at t p) kept in
+    let two : (not (is_some (t.old p)) ≡ false) × (goes_at t p ≡ false) = or_false (not (is_some (t.old p))) (goes_at t p) one.1 in
     (one.0, not_false (is_some (t.old p)) two.0, two.1)
 
-left_side : (t : WalkedTrees) (anew : Bool) (p : PathValue) → comes t anew p ≡ false → false ≡ (anew || goes (t.old p) (t.new p))
-left_side t anew p kept = let s = staying t anew p kept in sym (ap (λ b. b || goes (t.old p) (t.new p)) s.0 ∙ s.2)
+left_side : (t : WalkedTrees) (anew : Bool) (p : PathValue) → comes t anew p ≡ false → false ≡ (anew || goes_at t p)
+left_side t anew p kept = let s = staying t anew p kept in sym (ap (λ b. b || goes_at t p) s.0 ∙ s.2)
 
 -- ---- one entry
 
@@ -37,24 +36,24 @@ left_side t anew p kept = let s = staying t anew p kept in sym (ap (λ b. b || g
 pub absent : (t : WalkedTrees) (anew : Bool) (p : PathValue) → is_some (t.new p) ≡ false → IsPlanOf t anew p []
 absent t anew p none = record {
   right = λ sound.
-      nothing_new t.seen t.stale (anew || goes (t.old p) (t.new p)) t.old t.new p none (λ kept. stays_gone (t.old p) (t.new p) (or_false anew (goes (t.old p) (t.new p)) kept).1 none) sound;
+      nothing_new t.seen t.due t.apart (anew || goes_at t p) t.old t.new p none (λ kept. stays_gone (t.apart p) (t.old p) (t.new p) (or_false anew (goes_at t p) kept).1 none) sound;
   nests = λ top d inside. nested_nothing t.new top d;
 }
 
 -- all stays as it is
-pub alike : (t : WalkedTrees) (p : PathValue) → goes (t.old p) (t.new p) ≡ false → AreAlike t p → IsPlanOf t false p []
+pub alike : (t : WalkedTrees) (p : PathValue) → goes_at t p ≡ false → AreAlike t p → IsPlanOf t false p []
 alike t p stays same = record {
   right = λ sound.
-      subst (λ b. IsRightPlan t.seen (under p) t.stale (old_side b t.old) t.new t.own []) (sym stays) (nothing_alike t.seen t.stale false t.old t.new p refl same);
+      subst (λ b. IsRightPlan t.seen (under p) t.due t.apart (old_side b t.old) t.new t.own []) (sym stays) (nothing_alike t.seen t.due t.apart false t.old t.new p refl same);
   nests = λ top d inside. nested_nothing t.new top d;
 }
 
 -- the entry stays as it is, and nothing is said below it
-pub same : (t : WalkedTrees) (p : PathValue) → goes (t.old p) (t.new p) ≡ false → IsSame t p → IsPlanBelow t false p [] → IsPlanOf t false p []
+pub same : (t : WalkedTrees) (p : PathValue) → goes_at t p ≡ false → IsSame t p → IsPlanBelow t false p [] → IsPlanOf t false p []
 same t p stays is plan = record {
   right = λ sound.
-      subst (λ b. IsRightPlan t.seen (under p) t.stale (old_side b t.old) t.new t.own []) (sym stays)
-      (entry_same t.seen t.stale t.old t.new t.own p false [] refl refl is.node is.created is.fresh (plan.right sound));
+      subst (λ b. IsRightPlan t.seen (under p) t.due t.apart (old_side b t.old) t.new t.own []) (sym stays)
+      (entry_same t.seen t.due t.apart t.old t.new t.own p false [] refl refl is.node is.created is.quiet (λ both. stays_together (t.apart p) (t.old p) (t.new p) stays both.0 both.1) (plan.right sound));
   nests = λ top d inside. nested_nothing t.new top d;
 }
 
@@ -62,27 +61,30 @@ pub added : (t : WalkedTrees) (anew dir : Bool) (p : PathValue) (rest : List Vis
     → IsPlanBelow t true p rest → IsPlanOf t anew p (entry_visits dir (Add p dir) rest)
 added t anew dir p rest leads new stands kind file plan = record {
   right = λ sound.
-      added_entry t.seen t.stale anew t.old t.new p (plan_steps t.own (entry_visits dir (Add p dir) rest)) sound
-      (subst (λ b. IsRightPlan t.seen (under p) t.stale (old_side b t.old) t.new t.own (entry_visits dir (Add p dir) rest)) (sym new)
-      (with_close t.seen (under p) t.stale (old_side true t.old) t.new t.own dir (Add p dir) rest
-      (subst (λ b. IsRight t.seen (under p) t.stale (old_side true t.old) t.new (plan_steps t.own (Add p b ∷ rest))) (sym kind)
-      (entry_anew t.seen t.stale t.old t.new t.own p true rest refl stands leads (plan.right sound)))));
+      added_entry t.seen t.due t.apart anew t.old t.new p (plan_steps t.own (entry_visits dir (Add p dir) rest)) sound
+      (subst (λ b. IsRightPlan t.seen (under p) t.due t.apart (old_side b t.old) t.new t.own (entry_visits dir (Add p dir) rest)) (sym new)
+      (with_close t.seen (under p) t.due t.apart (old_side true t.old) t.new t.own dir (Add p dir) rest
+      (subst (λ b. IsRight t.seen (under p) t.due t.apart (old_side true t.old) t.new (plan_steps t.own (Add p b ∷ rest))) (sym kind)
+      (entry_anew t.seen t.due t.apart t.old t.new t.own p true rest refl stands leads (plan.right sound)))));
   nests = λ top d inside. nested_entry t.new top d p (Add p dir) dir rest (λ ds. refl) kind file inside stands (plan.nests top);
 }
 
 pub opened : (t : WalkedTrees) (anew dir : Bool) (p : PathValue) (rest : List Visit) → Leads t → comes t anew p ≡ false → is_some (t.new p) ≡ true → dir ≡ is_directory_there (t.new p) → (dir ≡ false → rest ≡ [])
-    → (BothHold t.old t.new p → HasReasonAt t p) → IsPlanBelow t false p rest → IsPlanOf t anew p (entry_visits dir (Open p dir) rest)
+    → (BothHold t.apart t.old t.new p → HasReasonAt t p) → IsPlanBelow t false p rest → IsPlanOf t anew p (entry_visits dir (Open p dir) rest)
 opened t anew dir p rest leads kept stands kind file reason plan = record {
   right = λ sound.
-      subst (λ b. IsRightPlan t.seen (under p) t.stale (old_side b t.old) t.new t.own (entry_visits dir (Open p dir) rest)) (left_side t anew p kept)
-      (with_close t.seen (under p) t.stale t.old t.new t.own dir (Open p dir) rest
-      (subst (λ b. IsRight t.seen (under p) t.stale t.old t.new (plan_steps t.own (Open p b ∷ rest))) (sym kind)
-      (entry_opened t.seen t.stale t.old t.new t.own p rest stay.1 stands stay.2 leads (reason sound) (plan.right sound))));
+      subst (λ b. IsRightPlan t.seen (under p) t.due t.apart (old_side b t.old) t.new t.own (entry_visits dir (Open p dir) rest)) (left_side t anew p kept)
+      (with_close t.seen (under p) t.due t.apart t.old t.new t.own dir (Open p dir) rest
+      (subst (λ b. IsRight t.seen (under p) t.due t.apart t.old t.new (plan_steps t.own (Open p b ∷ rest))) (sym kind)
+      (entry_opened t.seen t.due t.apart t.old t.new t.own p rest together (sound.of_one_kind p (under_itself p) (stay.1, stands) together) leads (reason sound) (plan.right sound))));
   nests = λ top d inside. nested_entry t.new top d p (Open p dir) dir rest (λ ds. refl) kind file inside stands (plan.nests top);
 }
   where
-    stay : (anew ≡ false) × (is_some (t.old p) ≡ true) × (goes (t.old p) (t.new p) ≡ false)
+    stay : (anew ≡ false) × (is_some (t.old p) ≡ true) × (goes_at t p ≡ false)
     stay = staying t anew p kept
+
+    together : t.apart p ≡ false
+    together = stays_together (t.apart p) (t.old p) (t.new p) stay.2 stay.1 stands
 
 -- an entry that comes, or that stays and has a reason, and what is below it
 pub entry_plan : (t : WalkedTrees) (anew dir : Bool) (p : PathValue) (vs : List Visit) → Leads t → is_some (t.new p) ≡ true → dir ≡ is_directory_there (t.new p)
@@ -94,9 +96,9 @@ entry_plan t anew dir p vs leads stands kind reason e = subst (IsPlanOf t anew p
     by false kept plan = opened t anew dir p e.rest leads kept stands kind e.file (λ sound. reason kept) plan
 
 -- nothing is below a file
-pub below_file : (t : WalkedTrees) (anew : Bool) (p : PathValue) → is_some (t.new p) ≡ true → is_directory_there (t.new p) ≡ false → (anew ≡ false → goes (t.old p) (t.new p) ≡ false) → IsPlanBelow t anew p []
+pub below_file : (t : WalkedTrees) (anew : Bool) (p : PathValue) → is_some (t.new p) ≡ true → is_directory_there (t.new p) ≡ false → (anew ≡ false → goes_at t p ≡ false) → IsPlanBelow t anew p []
 below_file t anew p stands file stays = record {
-  right = λ sound. nothing_below t.seen t.stale anew t.old t.new p stands file stays sound;
+  right = λ sound. nothing_below t.seen t.due t.apart anew t.old t.new p stands file stays sound;
   nests = λ top. nested_nothing t.new top p;
 }
 
@@ -117,29 +119,29 @@ plans_nested t anew top p (x ∷ xs) vs each (now, later, is, plan, rest) =
 
 -- what is left under an entry is what it is led from
 abbrev IsLedFrom : WalkedTrees → Bool → Tree → PathValue → Type 0
-IsLedFrom t anew s y = (q : PathValue) → is_at_or_under q y ≡ true → old_side (anew || goes (t.old y) (t.new y)) t.old q ≡ s q
+IsLedFrom t anew s y = (q : PathValue) → is_at_or_under q y ≡ true → old_side (anew || goes_at t y) t.old q ≡ s q
 
 -- a drive of one entry, and then one of others
 entry_joined : (t : WalkedTrees) (s : Tree) (x : PathValue) (xs : List PathValue) (now later : List Step) → ((q : PathValue) → is_at_or_under q x ≡ true → any_under xs q ≡ false)
-    → IsRight t.seen (under x) t.stale s t.new now → IsRight t.seen (any_under xs) t.stale s t.new later → IsRight t.seen (any_under (x ∷ xs)) t.stale s t.new (now ++ later)
-entry_joined t s x xs now later apart one others =
+    → IsRight t.seen (under x) t.due t.apart s t.new now → IsRight t.seen (any_under xs) t.due t.apart s t.new later → IsRight t.seen (any_under (x ∷ xs)) t.due t.apart s t.new (now ++ later)
+entry_joined t s x xs now later disjoint one others =
     rescoped (λ q. refl)
-    (joined t.seen (under x) (any_under xs) t.stale s t.new now later apart
-    (λ q h. reach_named now q (λ y named. false_or (is_at_or_under q y) (λ u. false≢true (sym (apart q (under_more q y x u (one.within y named))) ∙ h))))
-    (λ q h. reach_named later q (λ y named. false_or (is_at_or_under q y) (λ u. false≢true (sym (apart q h) ∙ any_more xs q y (others.within y named) u))))
+    (joined t.seen (under x) (any_under xs) t.due t.apart s t.new now later disjoint
+    (λ q h. reach_named now q (λ y named. false_or (is_at_or_under q y) (λ u. false≢true (sym (disjoint q (under_more q y x u (one.within y named))) ∙ h))))
+    (λ q h. reach_named later q (λ y named. false_or (is_at_or_under q y) (λ u. false≢true (sym (disjoint q h) ∙ any_more xs q y (others.within y named) u))))
     one others)
 
-plans_right : (t : WalkedTrees) (anew : Bool) (p : PathValue) (s : Tree) (xs : List PathValue) (vs : List Visit) → BothHold t.old t.new p → All (IsChild p) xs → AreApart xs → All (IsLedFrom t anew s) xs → ArePlansOf t anew xs vs
-    → IsRight t.seen (any_under xs) t.stale s t.new (plan_steps t.own vs)
-plans_right t anew p s [] vs sound each apart led plans =
-    subst (λ (ws : List Visit). IsRight t.seen (any_under []) t.stale s t.new (plan_steps t.own ws)) (sym plans)
-    (nothing t.seen (any_under []) t.stale s t.new (λ q h. absurd (false≢true h)))
-plans_right t anew p s (x ∷ xs) vs sound each apart led (now, later, is, plan, rest) =
-    subst (λ (cs : List Step). IsRight t.seen (any_under (x ∷ xs)) t.stale s t.new cs) (sym (ap (plan_steps t.own) is ∙ plan_steps_append t.own now later))
-    (entry_joined t s x xs (plan_steps t.own now) (plan_steps t.own later) apart.0
-    (reseated t.seen (under x) t.stale (old_side (anew || goes (t.old x) (t.new x)) t.old) s t.new (plan_steps t.own now) (λ q w h u. under_more w q x u h) (All-head (IsLedFrom t anew s) x xs led)
-    (plan.right (child_sound t.old t.new p x (All-head (IsChild p) x xs each) sound)))
-    (plans_right t anew p s xs later sound (All-tail (IsChild p) x xs each) apart.1 (All-tail (IsLedFrom t anew s) x xs led) rest))
+plans_right : (t : WalkedTrees) (anew : Bool) (p : PathValue) (s : Tree) (xs : List PathValue) (vs : List Visit) → BothHold t.apart t.old t.new p → All (IsChild p) xs → AreDisjoint xs → All (IsLedFrom t anew s) xs → ArePlansOf t anew xs vs
+    → IsRight t.seen (any_under xs) t.due t.apart s t.new (plan_steps t.own vs)
+plans_right t anew p s [] vs sound each disjoint led plans =
+    subst (λ (ws : List Visit). IsRight t.seen (any_under []) t.due t.apart s t.new (plan_steps t.own ws)) (sym plans)
+    (nothing t.seen (any_under []) t.due t.apart s t.new (λ q h. absurd (false≢true h)))
+plans_right t anew p s (x ∷ xs) vs sound each disjoint led (now, later, is, plan, rest) =
+    subst (λ (cs : List Step). IsRight t.seen (any_under (x ∷ xs)) t.due t.apart s t.new cs) (sym (ap (plan_steps t.own) is ∙ plan_steps_append t.own now later))
+    (entry_joined t s x xs (plan_steps t.own now) (plan_steps t.own later) disjoint.0
+    (reseated t.seen (under x) t.due t.apart (old_side (anew || goes_at t x) t.old) s t.new (plan_steps t.own now) (λ q w h u. under_more w q x u h) (All-head (IsLedFrom t anew s) x xs led)
+    (plan.right (child_sound t.apart t.old t.new p x (All-head (IsChild p) x xs each) sound)))
+    (plans_right t anew p s xs later sound (All-tail (IsChild p) x xs each) disjoint.1 (All-tail (IsLedFrom t anew s) x xs led) rest))
 
 one_place : (xs : List PathValue) (i : ℕ) (d e : PathValue) → i < length xs → get_or xs i d ≡ get_or xs i e
 one_place [] i d e lt = absurd (omega (lt, arith))
@@ -148,12 +150,12 @@ one_place (x ∷ xs) (suc i) d e lt = one_place xs i d e (omega (lt, arith))
 
 -- what goes, and then plans of all entries
 pub below_directory : (t : WalkedTrees) (anew : Bool) (p : PathValue) (xs : List PathValue) (vs : List Visit) → IsListed t p xs → ArePlansOf t anew xs vs
-    → IsPlanBelow t anew p (deletes_of anew t.old t.new xs ++ vs)
+    → IsPlanBelow t anew p (deletes_of anew t.apart t.old t.new xs ++ vs)
 below_directory t anew p xs vs listed plans = record {
   right = λ sound.
-      with_cuts anew t.seen t.stale t.old t.new t.own p xs vs sound.old_holds sound.new_holds listed.children
-      (all_children t.seen t.stale (left_of anew t.old t.new xs) t.new p xs (plan_steps t.own vs) listed.children (left_all anew t.old t.new p xs (listed.all_old sound.old_holds)) (listed.all_new sound.new_holds)
-      (plans_right t anew p (left_of anew t.old t.new xs) xs vs sound listed.children.each listed.children.apart
-      (λ i d lt. left_under anew t.old t.new p (get_or xs i d) xs i listed.children lt (one_place xs i d (get_or xs i d) lt) (listed.children.each i d lt)) plans));
-  nests = λ top. nested_append t.new top p (deletes_of anew t.old t.new xs) vs (nested_deletes anew t.old t.new top p xs listed.children.each) (plans_nested t anew top p xs vs listed.children.each plans);
+      with_cuts anew t.seen t.due t.apart t.old t.new t.own p xs vs sound listed.children
+      (all_children t.seen t.due t.apart (left_of anew t.apart t.old t.new xs) t.new p xs (plan_steps t.own vs) listed.children (left_all anew t.apart t.old t.new p xs (listed.all_old sound.old_holds)) (listed.all_new sound.new_holds)
+      (plans_right t anew p (left_of anew t.apart t.old t.new xs) xs vs sound listed.children.each listed.children.disjoint
+      (λ i d lt. left_under anew t.apart t.old t.new p (get_or xs i d) xs i listed.children lt (one_place xs i d (get_or xs i d) lt) (listed.children.each i d lt)) plans));
+  nests = λ top. nested_append t.new top p (deletes_of anew t.apart t.old t.new xs) vs (nested_deletes anew t.apart t.old t.new top p xs listed.children.each) (plans_nested t anew top p xs vs listed.children.each plans);
 }

@@ -1,28 +1,30 @@
 -- Why an entry is named, and that nothing is said where there is no reason.
 use Rattle.std.proofs.Common.{arith, ◌≡◌, ◌<◌, ◌+◌, ℕ, Bool, true, false, ◌||◌, not, List, [], ◌∷◌, ◌++◌, length, get_or, map, take, Option, Some, None, refl}
-use Rattle.std.proofs.{Common.{drop, sym, ap, ◌∙◌, subst, inl, inr, option_map, if◌then◌else◌, MatchBool}, lemmas.Bool.false≢true, lemmas.List.{length-append, take_more}}
-use Rattle.std.specs.Prelude.{is_some}
+use Rattle.std.proofs.{Common.{drop, sym, ap, ◌∙◌, subst, inl, inr, ⊎_elim, if◌then◌else◌, MatchBool}, lemmas.Bool.false≢true}
+use Rattle.std.proofs.lemmas.List.{length-append, take_more}
+use Rattle.std.specs.Prelude.{IsSome, is_some}
 use Rattle.svnpath.specs.{PathLaws.{under_append, under_is, under_itself}, Paths.{is_at_or_under, PathValue}}
-use Rattle.repo_api.specs.{Trees.{is_directory, Tree}, declared.entry.Entry.Entry}
-use Rattle.drive_rules.specs.Steps.{node_of}
-use Rattle.drive_rules.proofs.Entries.{no_length, under_more}
+use Rattle.repo_api.specs.{Trees.Tree, declared.entry.Entry.Entry}
+use Rattle.drive_rules.proofs.{Entries.{no_length, under_more}, Joined.or_cases}
 use Rattle.reporter.specs.{declared.visit.Visit.TheVariants.Delete, Left.{IsPlanBelow, IsSilent, ArePlansOf}}
-use Rattle.reporter.specs.Walks.{WalkedTrees, HasReasonAt, IsChild, IsListed, AreAlike, going}
-use Rattle.small_rules.specs.Going.{goes}
-use Rattle.reporter.proofs.{Planning.{goes_differs, same_length}, Plans.{below_directory, plans_append, absent, alike as all_alike}}
+use Rattle.reporter.specs.Walks.{WalkedTrees, HasReasonAt, IsChild, IsDue, IsListed, AreAlike, goes, goes_at, going}
+use Rattle.reporter.proofs.{Planning.{goes_why, one_side, same_length}, Plans.{below_directory, plans_append, absent, alike as all_alike}}
 
--- what goes has a reason
-pub going_reason : (t : WalkedTrees) (p : PathValue) → goes (t.old p) (t.new p) ≡ true → HasReasonAt t p
-going_reason t p g = inr (p, under_itself p, inl (λ same. goes_differs (t.old p) (t.new p) g same.0))
+-- what is due has a reason
+pub due_reason : (t : WalkedTrees) (p : PathValue) → IsDue t p → HasReasonAt t p
+due_reason t p due = inr (p, under_itself p, ⊎_elim inl (λ d. inr (inl d)) due)
 
-unlike : (o n : Option Entry) → is_some n ≡ true → (not (is_some o) || goes o n) ≡ true → option_map node_of o ≡ option_map node_of n → ⊥
-unlike None None some h e = false≢true some
-unlike None (Some y) some h e = false≢true (ap is_some e)
-unlike (Some x) n some h e = goes_differs (Some x) n h e
+-- so has what goes
+pub going_reason : (t : WalkedTrees) (p : PathValue) → goes_at t p ≡ true → HasReasonAt t p
+going_reason t p g = inr (p, under_itself p, ⊎_elim inl (λ a. inr (inr a)) (goes_why t.apart t.old t.new p g))
 
 -- so has what comes
-pub coming_reason : (t : WalkedTrees) (p : PathValue) → is_some (t.new p) ≡ true → (not (is_some (t.old p)) || goes (t.old p) (t.new p)) ≡ true → HasReasonAt t p
-coming_reason t p some h = inr (p, under_itself p, inl (λ same. unlike (t.old p) (t.new p) some h same.0))
+pub coming_reason : (t : WalkedTrees) (p : PathValue) → is_some (t.new p) ≡ true → (not (is_some (t.old p)) || goes_at t p) ≡ true → HasReasonAt t p
+coming_reason t p some h = ⊎_elim (λ none. inr (p, under_itself p, inl (λ same. one_side (t.new p) (t.old p) some (was_false (is_some (t.old p)) none) (sym same.0)))) (λ g. going_reason t p g) (or_cases (not (is_some (t.old p))) (goes_at t p) h)
+  where
+    was_false : (b : Bool) → not b ≡ true → b ≡ false
+    was_false true e = absurd (false≢true e)
+    was_false false e = refl
 
 -- and what is above something with a reason
 pub reason_above : (t : WalkedTrees) (p x : PathValue) → IsChild p x → HasReasonAt t x → HasReasonAt t p
@@ -44,20 +46,20 @@ reason_over t p q under (inr w) = inr (w.0, under_more w.0 q p w.1 under, w.2)
 
 -- nothing goes among these entries, and nothing is said of them
 abbrev pub SaysNothing : WalkedTrees → List PathValue → Type 0
-SaysNothing t xs = ArePlansOf t false xs [] × (going t.old t.new xs ≡ [])
+SaysNothing t xs = ArePlansOf t false xs [] × (going t.apart t.old t.new xs ≡ [])
 
-none_going_more : (r t : Tree) (xs : List PathValue) (y : PathValue) → going r t xs ≡ [] → goes (r y) (t y) ≡ false → going r t (xs ++ y ∷ []) ≡ []
-none_going_more r t [] y none stays = ap (λ b. if b then y ∷ [] else []) stays
-none_going_more r t (x ∷ xs) y none stays = by (goes (r x) (t x)) none (λ n. none_going_more r t xs y n stays)
+none_going_more : (apart : PathValue → Bool) (r t : Tree) (xs : List PathValue) (y : PathValue) → going apart r t xs ≡ [] → goes (apart y) (r y) (t y) ≡ false → going apart r t (xs ++ y ∷ []) ≡ []
+none_going_more apart r t [] y none stays = ap (λ b. if b then y ∷ [] else []) stays
+none_going_more apart r t (x ∷ xs) y none stays = by (goes (apart x) (r x) (t x)) none (λ n. none_going_more apart r t xs y n stays)
   where
-    by : (b : Bool) → (if b then x ∷ going r t xs else going r t xs) ≡ [] → (going r t xs ≡ [] → going r t (xs ++ y ∷ []) ≡ []) → (if b then x ∷ going r t (xs ++ y ∷ []) else going r t (xs ++ y ∷ [])) ≡ []
+    by : (b : Bool) → (if b then x ∷ going apart r t xs else going apart r t xs) ≡ [] → (going apart r t xs ≡ [] → going apart r t (xs ++ y ∷ []) ≡ []) → (if b then x ∷ going apart r t (xs ++ y ∷ []) else going apart r t (xs ++ y ∷ [])) ≡ []
     by true n more = cc
     by false n more = more n
 
 pub one_more : (t : WalkedTrees) (xs : List PathValue) (i : ℕ) (x : PathValue) → i < length xs → x ≡ get_or xs i x → IsSilent t x → SaysNothing t (take i xs) → SaysNothing t (take (i + 1) xs)
 one_more t xs i x lt is silent says =
     subst (SaysNothing t) (sym (take_more xs i x lt ∙ ap (λ y. take i xs ++ y ∷ []) (sym is)))
-    (plans_append t false (take i xs) (x ∷ []) [] [] says.0 ([], [], refl, silent.1, refl), none_going_more t.old t.new (take i xs) x says.1 silent.0)
+    (plans_append t false (take i xs) (x ∷ []) [] [] says.0 ([], [], refl, silent.1, refl), none_going_more t.apart t.old t.new (take i xs) x says.1 silent.0)
 
 pub nothing_said_below : (t : WalkedTrees) (p : PathValue) (xs : List PathValue) → IsListed t p xs → SaysNothing t xs → IsPlanBelow t false p []
 nothing_said_below t p xs listed says =
@@ -66,21 +68,18 @@ nothing_said_below t p xs listed says =
 -- ---- one or the other
 
 -- what is to stand nowhere goes, or was not there
-pub going_or_absent : (t : WalkedTrees) (p : PathValue) (b : Bool) → is_some (t.new p) ≡ false → b ≡ goes (t.old p) (t.new p) → MatchBool b (HasReasonAt t p) (IsSilent t p)
+pub going_or_absent : (t : WalkedTrees) (p : PathValue) (b : Bool) → is_some (t.new p) ≡ false → b ≡ goes_at t p → MatchBool b (HasReasonAt t p) (IsSilent t p)
 going_or_absent t p true none is = going_reason t p (sym is)
 going_or_absent t p false none is = (sym is, absent t false p none)
 
 -- what is alike stays
-pub alike_stays : (t : WalkedTrees) (p : PathValue) → AreAlike t p → goes (t.old p) (t.new p) ≡ false
-alike_stays t p alike = ap (λ e. goes e (t.new p)) (alike p (under_itself p)).0 ∙ by (t.new p)
+pub alike_stays : (t : WalkedTrees) (p : PathValue) → AreAlike t p → goes_at t p ≡ false
+alike_stays t p alike = by (t.old p) (t.new p) (alike p (under_itself p)).0 (alike p (under_itself p)).2
   where
-    bools : (b : Bool) → (if b then not b else b) ≡ false
-    bools true = refl
-    bools false = refl
-
-    by : (e : Option Entry) → goes e e ≡ false
-    by None = refl
-    by (Some x) = bools (is_directory x)
+    by : (o n : Option Entry) → o ≡ n → (IsSome o × IsSome n → t.apart p ≡ false) → goes (t.apart p) o n ≡ false
+    by None n same stays = refl
+    by (Some x) None same stays = absurd (false≢true (sym (ap is_some same)))
+    by (Some x) (Some y) same stays = stays (refl, refl)
 
 pub alike_silent : (t : WalkedTrees) (p : PathValue) → AreAlike t p → IsSilent t p
 alike_silent t p alike = (alike_stays t p alike, all_alike t p (alike_stays t p alike) alike)

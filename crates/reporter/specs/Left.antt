@@ -2,10 +2,9 @@
 use Rattle.std.specs.Prelude.{◌≡◌, Bool, true, false, ◌||◌, List, [], ◌∷◌, ◌++◌}
 use Rattle.svnpath.specs.Paths.{PathValue}
 use Rattle.drive_rules.specs.{Places.is_in_directory, Scopes.{below, under}}
-use Rattle.reporter.specs.{Nesting.{AreNested, entry_visit, entry_visits}, Visits.IsRightPlan, Walks.{WalkedTrees, BothHold, deletes_of, old_side}}
+use Rattle.reporter.specs.{Nesting.{AreNested, entry_visit, entry_visits}, Visits.IsRightPlan, Walks.{WalkedTrees, BothHold, deletes_of, goes_at, old_side}}
 use Rattle.reporter.specs.{declared.unvisited.Found.Found, declared.unvisited.Found.TheVariants.{Nothing, Single, Entered}}
 use Rattle.reporter.specs.{declared.unvisited.Unvisited.Unvisited, declared.visit.Visit.Visit, declared.visit.Visit.TheVariants.{Close, Open}}
-use Rattle.small_rules.specs.Going.{goes}
 
 -- ---- plans
 
@@ -13,16 +12,16 @@ use Rattle.small_rules.specs.Going.{goes}
 -- what goes there was taken out before, and have their places. The old side is nothing where the
 -- entry or its directory comes anew.
 pub record IsPlanOf (t : WalkedTrees) (anew : Bool) (p : PathValue) (vs : List Visit) : Type 0 where
-  pub right : BothHold t.old t.new p
-      → IsRightPlan t.seen (under p) t.stale (old_side (anew || goes (t.old p) (t.new p)) t.old)
+  pub right : BothHold t.apart t.old t.new p
+      → IsRightPlan t.seen (under p) t.due t.apart (old_side (anew || goes_at t p) t.old)
       t.new t.own vs
   pub nests : (top d : PathValue) → is_in_directory top d p ≡ true → AreNested t.new top d vs
 
 -- so are these, below the path
 pub record IsPlanBelow (t : WalkedTrees) (anew : Bool) (p : PathValue) (vs : List Visit)
     : Type 0 where
-  pub right : BothHold t.old t.new p
-      → IsRightPlan t.seen (below p) t.stale (old_side anew t.old) t.new t.own vs
+  pub right : BothHold t.apart t.old t.new p
+      → IsRightPlan t.seen (below p) t.due t.apart (old_side anew t.old) t.new t.own vs
   pub nests : (top : PathValue) → AreNested t.new top p vs
 
 -- an entry is entered, and then come the visits below it, which are none below a file
@@ -35,18 +34,18 @@ pub record IsEntry (t : WalkedTrees) (anew directory : Bool) (p : PathValue) (vs
 
 -- an entry stays, and nothing is to be said of it or of what is under it
 abbrev pub IsSilent : WalkedTrees → PathValue → Type 0
-IsSilent t p = (goes (t.old p) (t.new p) ≡ false) × IsPlanOf t false p []
+IsSilent t p = (goes_at t p ≡ false) × IsPlanOf t false p []
 
 -- these visits below the root, which is opened before, are a right drive and have their places
 pub record IsRootPlan (t : WalkedTrees) (vs : List Visit) : Type 0 where
-  pub right : BothHold t.old t.new []
-      → IsRightPlan t.seen (under []) t.stale t.old t.new t.own (Open [] true ∷ vs)
+  pub right : BothHold t.apart t.old t.new []
+      → IsRightPlan t.seen (under []) t.due t.apart t.old t.new t.own (Open [] true ∷ vs)
   pub nests : AreNested t.new [] [] vs
 
 -- so are these, from a top on
 pub record IsTopPlan (t : WalkedTrees) (top : PathValue) (vs : List Visit) : Type 0 where
-  pub right : BothHold t.old t.new top
-      → IsRightPlan t.seen (under top) t.stale t.old t.new t.own vs
+  pub right : BothHold t.apart t.old t.new top
+      → IsRightPlan t.seen (under top) t.due t.apart t.old t.new t.own vs
   pub nests : (d : PathValue) → is_in_directory top d top ≡ true → AreNested t.new top d vs
 
 -- visits of each of the paths, one after the other
@@ -61,12 +60,13 @@ ArePlansOf t anew (p ∷ ps) vs =
 -- these visits are of all that is at and under these paths: what goes, and then each entry
 abbrev pub AreVisitsOf : WalkedTrees → Bool → List PathValue → List Visit → Type 0
 AreVisitsOf t anew ps vs =
-    (later : List Visit) × (vs ≡ deletes_of anew t.old t.new ps ++ later)
+    (later : List Visit) × (vs ≡ deletes_of anew t.apart t.old t.new ps ++ later)
     × ArePlansOf t anew ps later
 
 -- what is to be said of these paths is to be said of those that were kept of them, and no more
 pub record IsEnough (t : WalkedTrees) (ps kept : List PathValue) : Type 0 where
-  pub deletes : deletes_of false t.old t.new kept ≡ deletes_of false t.old t.new ps
+  pub deletes : deletes_of false t.apart t.old t.new kept
+      ≡ deletes_of false t.apart t.old t.new ps
   pub plans : (vs : List Visit) → ArePlansOf t false kept vs → ArePlansOf t false ps vs
 
 -- these may be the visits of what is left in a directory

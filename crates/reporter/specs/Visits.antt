@@ -31,7 +31,7 @@ plan_steps own [] = []
 plan_steps own (v ∷ vs) = visit_steps own v ++ plan_steps own vs
 
 -- the steps of these visits are a right drive
-abbrev pub IsRightPlan : (Node → Node) → (PathValue → Bool) → (PathValue → Bool) → Tree → Tree
-    → OwnSteps → List Visit → Type 0
-IsRightPlan seen scope stale old new own visits =
-    IsRight seen scope stale old new (plan_steps own visits)
+abbrev pub IsRightPlan : (Node → Node) → (PathValue → Bool) → (PathValue → Bool)
+    → (PathValue → Bool) → Tree → Tree → OwnSteps → List Visit → Type 0
+IsRightPlan seen scope due apart old new own visits =
+    IsRight seen scope due apart old new (plan_steps own visits)

@@ -16,7 +16,8 @@ use svnpath::Path;
 /// Makes the visits of what goes among these paths.
 fn deletes_of<S: Sides>(alloc: Global, sides: &S, paths: &[Path]) -> Result<Vec<Visit>, AllocError>
     ensures { IfOk result (λ v. v.items
-        ≡ deletes_of false (S.trees sides.now).old (S.trees sides.now).new paths.now) }
+        ≡ deletes_of false (S.trees sides.now).apart (S.trees sides.now).old
+        (S.trees sides.now).new paths.now) }
 {
     let mut visits = Vec::new(alloc);
     for path in paths {

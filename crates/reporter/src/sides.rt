@@ -8,7 +8,7 @@ use svnpath::Path;
 
 /// Two trees side by side: what the client has, and what it is to have.
 pub trait Sides {
-    /// Both trees, where the client has a stale token, and what entries are told.
+    /// Both trees, which entries are due and which are apart, and what entries are told.
     ghost trees: { Self → WalkedTrees };
 
     /// No path of what it is to have is this long.
@@ -19,7 +19,7 @@ pub trait Sides {
     /// What an entry is told leads from what it was to what it is to be.
     ghost leads: { (s : Self) → LeadsOver (trees s).seen (trees s).old (trees s).new (trees s).own };
 
-    /// Says what exists at the path on both sides.
+    /// Says what exists at the path on both sides, and whether it is apart.
     fn kinds(&self, alloc: Global, path: &Path) -> Result<Kinds, AllocError>
         ensures { IfOk result (AreKindsAt (trees self.now) path.now) };
 
@@ -27,7 +27,7 @@ pub trait Sides {
     fn children(&self, alloc: Global, path: &Path) -> Result<Vec<Path>, AllocError>
         ensures { IfOk result (λ v. IsListed (trees self.now) path.now v.items) };
 
-    /// Says whether all is the same at the path and under it, with no stale token. A false answer
+    /// Says whether all is the same at the path and under it, with nothing due or apart. A false answer
     /// is always right, and makes the walk longer.
     fn is_alike(&self, alloc: Global, path: &Path) -> Result<bool, AllocError>
         ensures { IfOk result (λ alike. alike ≡ true → AreAlike (trees self.now) path.now) };

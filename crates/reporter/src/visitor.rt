@@ -18,7 +18,7 @@ pub struct Visitor {
 }
 
 impl Visitor {
-    ghost use Rattle.std.specs.Prelude.{◌≡◌, ◌∷◌, [], IfOk, List, MatchOption};
+    ghost use Rattle.std.specs.Prelude.{◌≡◌, ◌∷◌, [], false, IfOk, List, MatchOption};
     ghost use Rattle.repo_api.specs.Trees.{HasDirectory};
     ghost use Rattle.reporter.specs.{Left.{behind, IsRootPlan, IsTopPlan}, Visiting.{MayVisit, IsNew, IsNext}, declared.visit.Visit.Visit};
 
@@ -27,6 +27,7 @@ impl Visitor {
     pub fn of_root<S: Sides>(alloc: Global, sides: &S) -> Result<Self, AllocError>
         requires old { HasDirectory (S.trees sides.now).old [] }
         requires new { HasDirectory (S.trees sides.now).new [] }
+        requires stays { (S.trees sides.now).apart [] ≡ false }
         ensures { IfOk result (λ v. (vs : List Visit) → MayVisit (S.trees sides.now) v vs
             → IsRootPlan (S.trees sides.now) vs) }
     {

@@ -2,8 +2,7 @@ use Rattle.std.proofs.{Common.{◌≡◌, [], ◌||◌, not, sym, ap, ◌∙◌,
 use Rattle.std.specs.Prelude.{is_some}
 use Rattle.reporter.proofs.{Plans.{absent, comes, entry_plan, staying}, making.found_at.Goals.{then-is_anew, else-is_anew}}
 use Rattle.reporter.proofs.making.found_at.Goals as goal
-use Rattle.reporter.specs.Left.{IsEntry, IsPlanOf}
-use Rattle.small_rules.specs.Going.{goes}
+use Rattle.reporter.specs.{Left.{IsEntry, IsPlanOf}, Walks.{goes, goes_at}}
 
 pub returns-then-not-is_present : goal.returns-then-not-is_present
 returns-then-not-is_present g c = λ so. (
@@ -28,8 +27,8 @@ returns-then-comes g c =
   where
     new : c.if-is_anew.comes ≡ comes (g.S.Sides.trees c.args.sides.now) c.args.is_anew c.args.path
     new = elim c.if-is_anew.branch [
-      | then-is_anew w ↦ w.comes-is ∙ (w.if-is_anew.true ∙ sym (ap (λ b. b || (not (is_some ((g.S.Sides.trees c.args.sides.now).old c.args.path)) || goes ((g.S.Sides.trees c.args.sides.now).old c.args.path) ((g.S.Sides.trees c.args.sides.now).new c.args.path))) w.if-is_anew.true))
-      | else-is_anew w ↦ w.comes-is ∙ (w.is_added-comes.ensures ((g.S.Sides.trees c.args.sides.now).old c.args.path) ((g.S.Sides.trees c.args.sides.now).new c.args.path) c.in_ok-kinds.ensures.old c.in_ok-kinds.ensures.new ∙ sym (ap (λ b. b || (not (is_some ((g.S.Sides.trees c.args.sides.now).old c.args.path)) || goes ((g.S.Sides.trees c.args.sides.now).old c.args.path) ((g.S.Sides.trees c.args.sides.now).new c.args.path))) w.if-is_anew.false))
+      | then-is_anew w ↦ w.comes-is ∙ (w.if-is_anew.true ∙ sym (ap (λ b. b || (not (is_some ((g.S.Sides.trees c.args.sides.now).old c.args.path)) || goes_at (g.S.Sides.trees c.args.sides.now) c.args.path)) w.if-is_anew.true))
+      | else-is_anew w ↦ w.comes-is ∙ (w.is_added-comes.ensures ((g.S.Sides.trees c.args.sides.now).old c.args.path) ((g.S.Sides.trees c.args.sides.now).new c.args.path) c.in_ok-kinds.ensures.old c.in_ok-kinds.ensures.new ∙ (ap (λ a. not (is_some ((g.S.Sides.trees c.args.sides.now).old c.args.path)) || goes a ((g.S.Sides.trees c.args.sides.now).old c.args.path) ((g.S.Sides.trees c.args.sides.now).new c.args.path)) c.in_ok-kinds.ensures.apart) ∙ sym (ap (λ b. b || (not (is_some ((g.S.Sides.trees c.args.sides.now).old c.args.path)) || goes_at (g.S.Sides.trees c.args.sides.now) c.args.path)) w.if-is_anew.false))
     ]
 
 pub returns-then-not-branch : goal.returns-then-not-branch
@@ -43,8 +42,8 @@ returns-then-not-branch g c = λ so.
   where
     new : c.if-is_anew.comes ≡ comes (g.S.Sides.trees c.args.sides.now) c.args.is_anew c.args.path
     new = elim c.if-is_anew.branch [
-      | then-is_anew w ↦ w.comes-is ∙ (w.if-is_anew.true ∙ sym (ap (λ b. b || (not (is_some ((g.S.Sides.trees c.args.sides.now).old c.args.path)) || goes ((g.S.Sides.trees c.args.sides.now).old c.args.path) ((g.S.Sides.trees c.args.sides.now).new c.args.path))) w.if-is_anew.true))
-      | else-is_anew w ↦ w.comes-is ∙ (w.is_added-comes.ensures ((g.S.Sides.trees c.args.sides.now).old c.args.path) ((g.S.Sides.trees c.args.sides.now).new c.args.path) c.in_ok-kinds.ensures.old c.in_ok-kinds.ensures.new ∙ sym (ap (λ b. b || (not (is_some ((g.S.Sides.trees c.args.sides.now).old c.args.path)) || goes ((g.S.Sides.trees c.args.sides.now).old c.args.path) ((g.S.Sides.trees c.args.sides.now).new c.args.path))) w.if-is_anew.false))
+      | then-is_anew w ↦ w.comes-is ∙ (w.if-is_anew.true ∙ sym (ap (λ b. b || (not (is_some ((g.S.Sides.trees c.args.sides.now).old c.args.path)) || goes_at (g.S.Sides.trees c.args.sides.now) c.args.path)) w.if-is_anew.true))
+      | else-is_anew w ↦ w.comes-is ∙ (w.is_added-comes.ensures ((g.S.Sides.trees c.args.sides.now).old c.args.path) ((g.S.Sides.trees c.args.sides.now).new c.args.path) c.in_ok-kinds.ensures.old c.in_ok-kinds.ensures.new ∙ (ap (λ a. not (is_some ((g.S.Sides.trees c.args.sides.now).old c.args.path)) || goes a ((g.S.Sides.trees c.args.sides.now).old c.args.path) ((g.S.Sides.trees c.args.sides.now).new c.args.path)) c.in_ok-kinds.ensures.apart) ∙ sym (ap (λ b. b || (not (is_some ((g.S.Sides.trees c.args.sides.now).old c.args.path)) || goes_at (g.S.Sides.trees c.args.sides.now) c.args.path)) w.if-is_anew.false))
     ]
 
 pub returns : goal.returns
@@ -63,6 +62,6 @@ returns g c =
   where
     new : c.if-is_anew.comes ≡ comes (g.S.Sides.trees c.args.sides.now) c.args.is_anew c.args.path
     new = elim c.if-is_anew.branch [
-      | then-is_anew w ↦ w.comes-is ∙ (w.if-is_anew.true ∙ sym (ap (λ b. b || (not (is_some ((g.S.Sides.trees c.args.sides.now).old c.args.path)) || goes ((g.S.Sides.trees c.args.sides.now).old c.args.path) ((g.S.Sides.trees c.args.sides.now).new c.args.path))) w.if-is_anew.true))
-      | else-is_anew w ↦ w.comes-is ∙ (w.is_added-comes.ensures ((g.S.Sides.trees c.args.sides.now).old c.args.path) ((g.S.Sides.trees c.args.sides.now).new c.args.path) c.in_ok-kinds.ensures.old c.in_ok-kinds.ensures.new ∙ sym (ap (λ b. b || (not (is_some ((g.S.Sides.trees c.args.sides.now).old c.args.path)) || goes ((g.S.Sides.trees c.args.sides.now).old c.args.path) ((g.S.Sides.trees c.args.sides.now).new c.args.path))) w.if-is_anew.false))
+      | then-is_anew w ↦ w.comes-is ∙ (w.if-is_anew.true ∙ sym (ap (λ b. b || (not (is_some ((g.S.Sides.trees c.args.sides.now).old c.args.path)) || goes_at (g.S.Sides.trees c.args.sides.now) c.args.path)) w.if-is_anew.true))
+      | else-is_anew w ↦ w.comes-is ∙ (w.is_added-comes.ensures ((g.S.Sides.trees c.args.sides.now).old c.args.path) ((g.S.Sides.trees c.args.sides.now).new c.args.path) c.in_ok-kinds.ensures.old c.in_ok-kinds.ensures.new ∙ (ap (λ a. not (is_some ((g.S.Sides.trees c.args.sides.now).old c.args.path)) || goes a ((g.S.Sides.trees c.args.sides.now).old c.args.path) ((g.S.Sides.trees c.args.sides.now).new c.args.path)) c.in_ok-kinds.ensures.apart) ∙ sym (ap (λ b. b || (not (is_some ((g.S.Sides.trees c.args.sides.now).old c.args.path)) || goes_at (g.S.Sides.trees c.args.sides.now) c.args.path)) w.if-is_anew.false))
     ]

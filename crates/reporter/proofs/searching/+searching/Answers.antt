@@ -1,11 +1,9 @@
-use Rattle.std.proofs.{Common.{arith, ◌≡◌, refl, false, true, not, sym, ◌∙◌, subst, inr, ◌+◌, ◌<◌, length}, lemmas.List.take_all}
+use Rattle.std.proofs.{Common.{arith, ◌≡◌, ◌||◌, refl, false, true, not, sym, ap, ◌∙◌, subst, ◌+◌, ◌<◌, length}, lemmas.List.take_all}
 use Rattle.std.specs.Prelude.{is_some}
-use Rattle.svnpath.specs.PathLaws.{under_itself}
 use Rattle.drive_rules.proofs.Joined.{or_false}
-use Rattle.reporter.specs.Walks.{IsChild, AreChildren, IsListed}
-use Rattle.small_rules.specs.Going.{goes}
+use Rattle.reporter.specs.Walks.{IsChild, AreChildren, IsListed, goes, goes_at}
 use Rattle.reporter.proofs.{Planning.same_length, Plans.{below_file, same}, Remembering.noted}
-use Rattle.reporter.proofs.Reasons.{SaysNothing, alike_silent, coming_reason, nothing_said_below, one_more, reason_above, going_or_absent}
+use Rattle.reporter.proofs.Reasons.{SaysNothing, alike_silent, coming_reason, due_reason, nothing_said_below, one_more, reason_above, going_or_absent}
 use Rattle.reporter.proofs.searching.+searching.Goals as goal
 
 -- ---- has_news
@@ -16,7 +14,7 @@ has_news-returns-then-knows_news g t c = λ so. (so, c.knows_news.ensures c.if-k
 pub has_news-returns-then-branch : goal.has_news-returns-then-branch
 has_news-returns-then-branch g t c =
     noted c.note_news.result (g.S.Sides.trees c.args.sides.now) c.args.path.now c.args.memory.now c.note_news.new.self true
-    (inr (c.args.path.now, under_itself c.args.path.now, rw c.if-branch.true at c.in_ok-is_due.ensures)) c.note_news.ensures.is c.note_news.ensures.kept
+    (due_reason (g.S.Sides.trees c.args.sides.now) c.args.path.now (rw c.if-branch.true at c.in_ok-is_due.ensures)) c.note_news.ensures.is c.note_news.ensures.kept
 
 pub has_news-returns-then-not-is_directory : goal.has_news-returns-then-not-is_directory
 has_news-returns-then-not-is_directory g t c = λ so. (
@@ -90,15 +88,21 @@ pub is_named-returns-then-not-is_present : goal.is_named-returns-then-not-is_pre
 is_named-returns-then-not-is_present g t c =
     noted c.note_news.result (g.S.Sides.trees c.args.sides.now) c.args.path.now c.args.memory.now c.note_news.new.self c.goes.result
     (going_or_absent (g.S.Sides.trees c.args.sides.now) c.args.path.now c.goes.result (sym (c.is_present.ensures.entry ((g.S.Sides.trees c.args.sides.now).new c.args.path.now) c.in_ok-kinds.ensures.new) ∙ c.if-not-is_present.true)
-    (c.goes.ensures ((g.S.Sides.trees c.args.sides.now).old c.args.path.now) ((g.S.Sides.trees c.args.sides.now).new c.args.path.now) c.in_ok-kinds.ensures.old c.in_ok-kinds.ensures.new))
+    (c.goes.ensures ((g.S.Sides.trees c.args.sides.now).old c.args.path.now) ((g.S.Sides.trees c.args.sides.now).new c.args.path.now) c.in_ok-kinds.ensures.old c.in_ok-kinds.ensures.new
+    ∙ ap (λ a. goes a ((g.S.Sides.trees c.args.sides.now).old c.args.path.now) ((g.S.Sides.trees c.args.sides.now).new c.args.path.now)) c.in_ok-kinds.ensures.apart))
     c.note_news.ensures.is c.note_news.ensures.kept
 
 pub is_named-returns-then-is_added : goal.is_named-returns-then-is_added
 is_named-returns-then-is_added g t c =
     noted c.note_news-then-is_added.result (g.S.Sides.trees c.args.sides.now) c.args.path.now c.args.memory.now c.note_news-then-is_added.new.self true
     (coming_reason (g.S.Sides.trees c.args.sides.now) c.args.path.now (sym (c.is_present.ensures.entry ((g.S.Sides.trees c.args.sides.now).new c.args.path.now) c.in_ok-kinds.ensures.new) ∙ c.if-not-is_present.false)
-    (sym (c.is_added.ensures ((g.S.Sides.trees c.args.sides.now).old c.args.path.now) ((g.S.Sides.trees c.args.sides.now).new c.args.path.now) c.in_ok-kinds.ensures.old c.in_ok-kinds.ensures.new) ∙ c.if-is_added.true))
+    (sym added ∙ c.if-is_added.true))
     c.note_news-then-is_added.ensures.is c.note_news-then-is_added.ensures.kept
+  where
+    added : c.is_added.result ≡ (not (is_some ((g.S.Sides.trees c.args.sides.now).old c.args.path.now)) || goes_at (g.S.Sides.trees c.args.sides.now) c.args.path.now)
+    added =
+        c.is_added.ensures ((g.S.Sides.trees c.args.sides.now).old c.args.path.now) ((g.S.Sides.trees c.args.sides.now).new c.args.path.now) c.in_ok-kinds.ensures.old c.in_ok-kinds.ensures.new
+        ∙ ap (λ a. not (is_some ((g.S.Sides.trees c.args.sides.now).old c.args.path.now)) || goes a ((g.S.Sides.trees c.args.sides.now).old c.args.path.now) ((g.S.Sides.trees c.args.sides.now).new c.args.path.now)) c.in_ok-kinds.ensures.apart
 
 pub is_named-has_news-requires : goal.is_named-has_news-requires
 is_named-has_news-requires g t c κs inside = (
@@ -108,8 +112,13 @@ is_named-has_news-requires g t c κs inside = (
     record {
       stands = sym (c.is_present.ensures.entry ((g.S.Sides.trees c.args.sides.now).new c.args.path.now) c.in_ok-kinds.ensures.new) ∙ c.if-not-is_present.false;
       kind = c.is_directory.ensures.entry ((g.S.Sides.trees c.args.sides.now).new c.args.path.now) c.in_ok-kinds.ensures.new;
-      stays = λ _. (or_false (not (is_some ((g.S.Sides.trees c.args.sides.now).old c.args.path.now))) (goes ((g.S.Sides.trees c.args.sides.now).old c.args.path.now) ((g.S.Sides.trees c.args.sides.now).new c.args.path.now))
-          (sym (c.is_added.ensures ((g.S.Sides.trees c.args.sides.now).old c.args.path.now) ((g.S.Sides.trees c.args.sides.now).new c.args.path.now) c.in_ok-kinds.ensures.old c.in_ok-kinds.ensures.new) ∙ c.if-is_added.false)).1;
+      stays = λ _. (or_false (not (is_some ((g.S.Sides.trees c.args.sides.now).old c.args.path.now))) (goes_at (g.S.Sides.trees c.args.sides.now) c.args.path.now)
+          (sym added ∙ c.if-is_added.false)).1;
     },
   ),
 )
+  where
+    added : c.is_added.result ≡ (not (is_some ((g.S.Sides.trees c.args.sides.now).old c.args.path.now)) || goes_at (g.S.Sides.trees c.args.sides.now) c.args.path.now)
+    added =
+        c.is_added.ensures ((g.S.Sides.trees c.args.sides.now).old c.args.path.now) ((g.S.Sides.trees c.args.sides.now).new c.args.path.now) c.in_ok-kinds.ensures.old c.in_ok-kinds.ensures.new
+        ∙ ap (λ a. not (is_some ((g.S.Sides.trees c.args.sides.now).old c.args.path.now)) || goes a ((g.S.Sides.trees c.args.sides.now).old c.args.path.now) ((g.S.Sides.trees c.args.sides.now).new c.args.path.now)) c.in_ok-kinds.ensures.apart

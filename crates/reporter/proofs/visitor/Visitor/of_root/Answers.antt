@@ -6,7 +6,7 @@ use Rattle.reporter.proofs.visitor.Visitor.of_root.Goals as goal
 pub returns : goal.returns
 returns g c =
     IfOk-weaker c.of.result _ _ (λ v made. λ vs left.
-    root_plan (g.S.Sides.trees c.args.sides.now) vs c.requires.old c.requires.new (g.S.Sides.leads c.args.sides.now)
+    root_plan (g.S.Sides.trees c.args.sides.now) vs c.requires.old c.requires.new c.requires.stays (g.S.Sides.leads c.args.sides.now)
     (subst (λ p. IsPlanBelow (g.S.Sides.trees c.args.sides.now) false p vs) c.root.ensures
     (c.in_ok-below.ensures vs (alone_left (g.S.Sides.trees c.args.sides.now) c.in_ok-below.below vs (subst (λ ds. IsLeft (g.S.Sides.trees c.args.sides.now) ds vs) made.first (left (made.memory (g.S.Sides.trees c.args.sides.now))))))))
     c.of.ensures
