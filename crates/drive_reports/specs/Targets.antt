@@ -4,7 +4,7 @@ use Rattle.std.specs.FinMap.{get}
 use Rattle.svnpath.specs.Paths.{is_at_or_under, PathValue}
 use Rattle.repo_api.specs.{States.{LockMap, RepoState, trees_in}, Trees.Tree, declared.entry.Entry.Entry, declared.lock.Lock.Lock}
 use Rattle.wire_forms.specs.Forms.{is_name}
-use Rattle.small_rules.specs.Going.{goes}
+use Rattle.small_rules.specs.GivingWay.{gives_way}
 use Rattle.drive_rules.specs.{Scopes.{depth_below, DepthLimit, hides_nothing, scope_of, within}, Scopes.DepthLimit.{Given, Reported}}
 use Rattle.drive_rules.specs.declared.depth.Depth.{Depth}
 use Rattle.drive_reports.specs.{Reported.{ReportedTree, reported_entries, has_directory, reported}, declared.ask.DepthAsked.DepthAsked}
@@ -93,9 +93,10 @@ old_tree c report = within (drive_scope c report) (client_entries c report)
 abbrev pub new_tree : RepoState → WholeReport → Tree
 new_tree c report = within (drive_scope c report) (target_entries c report)
 
--- what the client has of these paths, and is not to keep: it goes, or comes anew as another kind
+-- what the client has of these paths, and is not to keep: nothing is to stand there, or an entry of
+-- another kind
 abbrev pub is_apart : RepoState → WholeReport → PathValue → Bool
-is_apart c report q = goes (old_tree c report q) (new_tree c report q)
+is_apart c report q = gives_way (old_tree c report q) (new_tree c report q)
 
 -- the paths of the drive whose token is stale
 abbrev pub stale_in : RepoState → WholeReport → PathValue → Bool

@@ -16,7 +16,7 @@ use Rattle.drive_reports.specs.{Refusing.{OpenState, ◌>>=◌, ok_if, has_goal,
 use Rattle.drive_reports.specs.Targets.{WholeReport, client_tree, drive_scope, limit_of, target_tree, reported_tree, is_apart, old_tree, new_tree, stale_in}
 use Rattle.drive_reports.specs.declared.report.ReportRoot.{ReportRoot}
 use Rattle.drive_reports.specs.Reported as reported
-use Rattle.small_rules.specs.Going.{goes}
+use Rattle.small_rules.specs.GivingWay.{gives_way}
 use Rattle.drive_sides.specs.Plans.{IsPlan, drive_trees, whole}
 
 -- ---- what is known of a report that has come to its end
@@ -79,7 +79,7 @@ abbrev pub IsRightFor : RepoState → WholeReport → PathValue → List Visit �
 IsRightFor c report top visits = IsRightPlan (seen_by report.ask.purpose) (under top) (stale_in c report) (is_apart c report) (old_tree c report) (new_tree c report) (own_steps_of c report) visits
 
 -- a directory on both sides stays
-pub both_stay : (o n : Option Entry) → IsSomeAnd o (λ e. IsTrue (is_directory e)) → IsSomeAnd n (λ e. IsTrue (is_directory e)) → goes o n ≡ false
+pub both_stay : (o n : Option Entry) → IsSomeAnd o (λ e. IsTrue (is_directory e)) → IsSomeAnd n (λ e. IsTrue (is_directory e)) → gives_way o n ≡ false
 both_stay None n h k = refl
 both_stay (Some x) None h k = absurd k
 both_stay (Some x) (Some y) h k = bools (is_directory x) (is_directory y) h k
@@ -90,7 +90,7 @@ both_stay (Some x) (Some y) h k = bools (is_directory x) (is_directory y) h k
     bools false b e f = absurd (false≢true e)
 
 -- what stays on both sides is of one kind
-one_kind : (o n : Option Entry) → is_some o ≡ true → is_some n ≡ true → goes o n ≡ false → IsSomeAnd o (λ e. IsSomeAnd n (λ f. is_directory e ≡ is_directory f))
+one_kind : (o n : Option Entry) → is_some o ≡ true → is_some n ≡ true → gives_way o n ≡ false → IsSomeAnd o (λ e. IsSomeAnd n (λ f. is_directory e ≡ is_directory f))
 one_kind None n a b s = absurd (false≢true a)
 one_kind (Some x) None a b s = absurd (false≢true b)
 one_kind (Some x) (Some y) a b s = bools (is_directory x) (is_directory y) s

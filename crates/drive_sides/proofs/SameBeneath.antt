@@ -4,7 +4,7 @@ use Rattle.std.proofs.Common.{◌≡◌, ℕ, Bool, true, false, cond, ◌&&◌,
 use Rattle.std.proofs.{Common.{ap, ◌∙◌, subst, option_map}, lemmas.List.append_assoc}
 use Rattle.std.specs.{List.list_any, Prelude.{IfSome, option_and_then, option_copied}}
 use Rattle.svnpath.specs.{PathLaws.{rest_append, under_append, under_is}, Paths.{Component, is_at_or_under, PathValue}}
-use Rattle.small_rules.specs.Going.{goes}
+use Rattle.small_rules.specs.GivingWay.{gives_way}
 use Rattle.repo_api.specs.{Readings.IsSameAt, States.{RepoState, trees_in}, Trees.{is_directory, Tree}, declared.entry.Entry.Entry}
 use Rattle.drive_rules.proofs.{Entries.under_more, Joined.or_false}
 use Rattle.drive_rules.specs.{Drives.IsInBoth, Scopes.{below, depth_below}}
@@ -17,7 +17,7 @@ use Rattle.drive_reports.specs.{declared.ask.DriveAsk.DriveAsk, declared.graft.G
 use Rattle.drive_reports.specs.declared.reported.ReportedPlace.{ReportedPlace}
 
 -- an entry stays where the same is to stand
-itself_stays : (e : Option Entry) → goes e e ≡ false
+itself_stays : (e : Option Entry) → gives_way e e ≡ false
 itself_stays None = refl
 itself_stays (Some x) = by (is_directory x)
   where
@@ -91,7 +91,7 @@ module _ (s : RepoState) (report : WholeReport) (p : PathValue) (place : Reporte
   pub alike : IsSameAt s place.revision place.path report.ask.revision (goal_path report.ask p) → AreAlike (drive_trees s report) p
   alike equal q under =
       subst (λ x. (old_tree s report x ≡ new_tree s report x) × (stale_in s report x ≡ false) × (IsInBoth (old_tree s report) (new_tree s report) x → is_apart s report x ≡ false)) (sym (under_is q p under))
-      (same (drop (length p) q), fresh_at (drop (length p) q), λ both. ap (λ e. goes e (new_tree s report (p ++ drop (length p) q))) (same (drop (length p) q)) ∙ itself_stays (new_tree s report (p ++ drop (length p) q)))
+      (same (drop (length p) q), fresh_at (drop (length p) q), λ both. ap (λ e. gives_way e (new_tree s report (p ++ drop (length p) q))) (same (drop (length p) q)) ∙ itself_stays (new_tree s report (p ++ drop (length p) q)))
     where
       same : (rest : List Component) → old_tree s report (p ++ rest) ≡ new_tree s report (p ++ rest)
       same rest = ap (λ e. cond (drive_scope s report (p ++ rest)) e None) (client_at rest ∙ equal rest ∙ sym (target_at rest))
@@ -115,7 +115,7 @@ module _ (s : RepoState) (report : WholeReport) (p : PathValue) (place : Reporte
 pub same_pair : (s : RepoState) (report : WholeReport) (p q : PathValue) (one two : EntryPair) → IsPairAt s report p one → IsPairAt s report q two
     → IsSameAt s one.revision one.old two.revision two.old × IsSameAt s report.ask.revision one.new report.ask.revision two.new → IsSamePair (drive_trees s report) p q
 same_pair s report p q one two first second same rest =
-    (old, new, ap (λ e. goes e (new_tree s report (p ++ rest))) old ∙ ap (λ e. goes (old_tree s report (q ++ rest)) e) new, second.fresh rest)
+    (old, new, ap (λ e. gives_way e (new_tree s report (p ++ rest))) old ∙ ap (λ e. gives_way (old_tree s report (q ++ rest)) e) new, second.fresh rest)
   where
     old : old_tree s report (p ++ rest) ≡ old_tree s report (q ++ rest)
     old = first.old rest ∙ same.0 rest ∙ sym (second.old rest)

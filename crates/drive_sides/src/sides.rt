@@ -9,7 +9,7 @@ use byte_string::ByteString;
 use drive_news::{Place, entries_differ};
 use repo_api::{NodeKind, Repository};
 use reporter::{Kinds, Sides};
-use small_rules::goes;
+use small_rules::gives_way;
 use std::alloc::{AllocError, Global};
 use std::collections::BTreeSet;
 use svnpath::Path;
@@ -125,7 +125,7 @@ impl<'a, R: Repository> Sides for TwoTrees<'a, R> {
         Ok(Kinds {
             old,
             new,
-            is_apart: goes(old, new),
+            is_apart: gives_way(old, new),
         })
     }
 

@@ -1,2 +1,2 @@
-pub mod Going
+pub mod GivingWay
 pub mod Guarding

@@ -4,7 +4,7 @@
 ghost use Rattle.std.specs.Prelude.{◌≡◌, Option};
 ghost use Rattle.repo_api.specs.{Kinds.kind_of, Locking.is_of_whole_tree, declared.entry.Entry.Entry};
 ghost use Rattle.wire_forms.specs.Forms.{is_name};
-ghost use Rattle.small_rules.specs.{Going.goes, Guarding.guarding_change};
+ghost use Rattle.small_rules.specs.{GivingWay.gives_way, Guarding.guarding_change};
 
 use repo_api::{Action, FileText, NodeKind};
 use svnpath::Path;
@@ -26,9 +26,9 @@ pub fn is_same_text(old: &FileText, new: &FileText) -> bool
     old.as_slice() == new.as_slice()
 }
 
-/// Says whether an entry of the old kind goes, or comes anew as one of the new kind.
-pub fn goes(old: NodeKind, new: NodeKind) -> bool
-    ensures { (e f : Option Entry) → old ≡ kind_of e → new ≡ kind_of f → result ≡ goes e f }
+/// Says whether an entry of the old kind gives way: nothing, or an entry of another kind, is to stand there.
+pub fn gives_way(old: NodeKind, new: NodeKind) -> bool
+    ensures { (e f : Option Entry) → old ≡ kind_of e → new ≡ kind_of f → result ≡ gives_way e f }
 {
     match old {
         NodeKind::Absent => false,
