@@ -4,6 +4,8 @@
 #[cfg(test)]
 mod hubs;
 #[cfg(test)]
+mod lines;
+#[cfg(test)]
 mod locks;
 #[cfg(test)]
 mod stdio;
