@@ -115,8 +115,12 @@ where
 {
     let (sender, callers) = unbounded::<Client<'e, R>, Global>(entrance.alloc)?;
     let options = &server.settings.options;
-    let registry = &entrance.registry;
-    let pool = SessionPool::new(options, registry, registry, server.settings.sessions);
+    let pool = SessionPool::new(
+        options,
+        &entrance.registry,
+        &entrance.registry,
+        server.settings.sessions,
+    );
     let way = Way {
         sender,
         callers: &callers,
