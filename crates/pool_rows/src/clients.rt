@@ -22,7 +22,7 @@ use store_files::MemoryStore;
 /// What clients do.
 #[derive(Clone, Copy)]
 enum Clients {
-    /// Two commit, one of them while the other is inside its commit.
+    /// Two commit, one of them while the other is inside its commit, and a third comes then.
     Commit,
     /// As many are open as may be while another comes, and then one leaves.
     Fill,
@@ -36,7 +36,7 @@ impl Clients {
     /// Says how many there are.
     fn count(self) -> usize {
         match self {
-            Clients::Commit => 2,
+            Clients::Commit => 3,
             Clients::Fill => 18,
             Clients::FillFew => 7,
             Clients::FillAddress => 5,
@@ -120,7 +120,7 @@ fn hear_of_commit(rt: &impl Abort, stream: &mut TcpStream, words: &[u8]) {
     hear(rt, stream, b" ) ( ) ( ) ) ");
 }
 
-/// Has a client commit and read while another is inside its commit, which is made afterwards.
+/// Has a client commit and read while another is inside its commit, which is made afterwards. Who comes then is greeted.
 fn commit_two<R: Abort + Net<Stream = TcpStream>>(rt: &R, address: SocketAddr) {
     let mut first = come(rt, address);
     send(rt, &mut first, LOGIN);
@@ -136,6 +136,7 @@ fn commit_two<R: Abort + Net<Stream = TcpStream>>(rt: &R, address: SocketAddr) {
     hear(rt, &mut second, WAS_READ);
     send(rt, &mut first, CLOSE);
     hear_of_commit(rt, &mut first, SECOND);
+    drop(come_greeted(rt, address));
 }
 
 /// Connects a client, which is greeted.

@@ -24,3 +24,11 @@ fn words_differ_and_moments_are_those_of_the_clock(rt: HostRuntime) {
     assert!(rt; before <= moments.0 && moments.0 <= moments.1 && moments.1 <= after);
     assert!(rt; first.token != second.token && first.nonce != second.nonce);
 }
+
+#[test]
+fn words_of_two_sources_differ(rt: HostRuntime) {
+    let mut one = SystemEnvs::new(&rt).expect(&rt, "random bytes");
+    let mut other = SystemEnvs::new(&rt).expect(&rt, "random bytes");
+    let (first, second) = (one.next_env(), other.next_env());
+    assert!(rt; first.token != second.token && first.nonce != second.nonce);
+}

@@ -1,17 +1,21 @@
 //! What the seats are told where a save fails.
+ghost use Rattle.std.specs.Prelude.{◌≡◌};
 
 use crate::commits::{commit, youngest};
 use crate::files::new_files;
-use crate::plays::{Play, is_played_over};
-use crate::seats::{SoundTrees, opened};
+use crate::plays::{Act, Marks, Play, act_in, is_played_over};
+use crate::seats::{SoundTrees, opened, places};
+use crate::stores::{TestStore, failing};
 use access::RepoAccess;
 use filed_world::FiledWorld;
-use published::NewHistory;
+use published::{Naming, NewHistory};
 use repo_api::ChangeFault;
 use std::alloc::Global;
 use std::marker::Brand;
 use std::process::Abort;
-use store_files::{FuseStore, Left, MemoryStore};
+use std::sync::Wait;
+use store_access::StoredRepository;
+use store_files::{Left, Store};
 
 /// What two seats are told: how the commit of the first is answered, the youngest revision that the second sees behind
 /// it, whether this one knows of a halt, and how its commit is answered.
@@ -52,8 +56,8 @@ fn a_halt_is_told_to_all_seats(rt: HostRuntime) {
     let mut are_told = true;
     for left in [Left::Old, Left::New, Left::Torn] {
         for (passes, wanted) in ROWS.iter() {
-            let store = FuseStore::new(new_files(&rt, rt.alloc()), *passes, left);
-            are_told &= is_played_over::<FiledWorld, FuseStore<MemoryStore>, Brand, HostRuntime>(
+            let store = failing(new_files(&rt, rt.alloc()), *passes, left);
+            are_told &= is_played_over::<FiledWorld, TestStore, Brand, HostRuntime>(
                 &rt,
                 rt.alloc(),
                 opened(&rt, rt.alloc(), store),
@@ -63,4 +67,36 @@ fn a_halt_is_told_to_all_seats(rt: HostRuntime) {
         }
     }
     assert!(rt; are_told);
+}
+
+/// Says whether it is noted, behind a commit at a seat, that changes have come to a halt.
+fn is_noted<F: SoundTrees, S: Store, J: Naming, R: Abort + Wait>(
+    rt: &R,
+    alloc: Global,
+    stored: StoredRepository<F, S>,
+    history: NewHistory,
+) -> bool
+    requires { history.seen.book ≡ J.book }
+{
+    let mut places = places::<F, S, J, R>(rt, alloc, stored, 1, history);
+    let place = places.pop().expect(rt, "a place");
+    let shared = place.shared();
+    let _told = act_in(rt, alloc, place, Act::Commit, &Marks::new());
+    shared.as_ref().has_halted()
+}
+
+#[test]
+fn a_halt_is_noted_where_one_has_come(rt: HostRuntime) {
+    let mut are_noted = true;
+    for (passes, _) in ROWS.iter() {
+        let store = failing(new_files(&rt, rt.alloc()), *passes, Left::Old);
+        let was_noted = is_noted::<FiledWorld, TestStore, Brand, HostRuntime>(
+            &rt,
+            rt.alloc(),
+            opened(&rt, rt.alloc(), store),
+            NewHistory::new(),
+        );
+        are_noted &= was_noted == (*passes == 2);
+    }
+    assert!(rt; are_noted);
 }

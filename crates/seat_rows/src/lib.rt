@@ -21,3 +21,5 @@ mod saves;
 mod seats;
 #[cfg(test)]
 mod sixteen;
+#[cfg(test)]
+mod stores;

@@ -4,6 +4,7 @@ use crate::commits::{commit, youngest};
 use crate::files::new_files;
 use crate::plays::{Play, is_played_over};
 use crate::seats::{SoundTrees, opened};
+use crate::stores::{TestStore, whole};
 use access::RepoAccess;
 use filed_world::FiledWorld;
 use published::NewHistory;
@@ -11,7 +12,6 @@ use std::alloc::Global;
 use std::marker::Brand;
 use std::mem::swap;
 use std::process::Abort;
-use store_files::MemoryStore;
 
 /// How many commits the two seats make.
 const COMMITS: u64 = 100;
@@ -35,10 +35,10 @@ pub(crate) fn are_seen<A: RepoAccess<View = V> + Drop, V: SoundTrees>(
 
 #[test]
 fn each_look_has_the_last_commit(rt: HostRuntime) {
-    let seen = is_played_over::<FiledWorld, MemoryStore, Brand, HostRuntime>(
+    let seen = is_played_over::<FiledWorld, TestStore, Brand, HostRuntime>(
         &rt,
         rt.alloc(),
-        opened(&rt, rt.alloc(), new_files(&rt, rt.alloc())),
+        opened(&rt, rt.alloc(), whole(new_files(&rt, rt.alloc()))),
         NewHistory::new(),
         Play::Looks,
     );

@@ -3,6 +3,7 @@
 use crate::files::{bytes, new_files};
 use crate::plays::{Play, is_played_over};
 use crate::seats::opened;
+use crate::stores::{TestStore, whole};
 use access::RepoAccess;
 use byte_string::ByteString;
 use filed_world::FiledWorld;
@@ -12,7 +13,6 @@ use repo_api::{ChangeFault, PreviousValue, PropertyAsk};
 use std::alloc::Global;
 use std::marker::Brand;
 use std::process::Abort;
-use store_files::MemoryStore;
 
 /// Makes a value of a property, or none.
 fn value_of(rt: &impl Abort, alloc: Global, value: &[u8]) -> Option<ByteString> {
@@ -54,10 +54,10 @@ pub(crate) fn is_changed_by_one<A: RepoAccess + Drop>(
 
 #[test]
 fn of_two_that_have_seen_one_value_one_changes_it(rt: HostRuntime) {
-    let is_changed = is_played_over::<FiledWorld, MemoryStore, Brand, HostRuntime>(
+    let is_changed = is_played_over::<FiledWorld, TestStore, Brand, HostRuntime>(
         &rt,
         rt.alloc(),
-        opened(&rt, rt.alloc(), new_files(&rt, rt.alloc())),
+        opened(&rt, rt.alloc(), whole(new_files(&rt, rt.alloc()))),
         NewHistory::new(),
         Play::Properties,
     );

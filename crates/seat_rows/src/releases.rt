@@ -5,6 +5,7 @@ use crate::commits::{ask_for, commit, commit_of, youngest};
 use crate::files::{bytes, files_with_a, lock_ask, path_a};
 use crate::plays::{Play, is_played_over};
 use crate::seats::{SoundTrees, opened};
+use crate::stores::{TestStore, failing, whole};
 use access::{Released, RepoAccess};
 use filed_world::FiledWorld;
 use published::NewHistory;
@@ -13,7 +14,7 @@ use std::alloc::Global;
 use std::marker::Brand;
 use std::process::Abort;
 use store_access::StoredRepository;
-use store_files::{FuseStore, Left, MemoryStore, Store};
+use store_files::{Left, Store};
 
 /// The token of the lock.
 const TOKEN: &[u8] = b"opaquelocktoken:00000000-0000-4000-8000-000000000001";
@@ -140,10 +141,10 @@ static ROWS: [(u64, ReleaseTold); 3] = [(0, NOT_LOCKED), (4, NOT_RELEASED), (5, 
 
 #[test]
 fn with_ample_memory_a_seat_releases_the_lock_that_it_hands_in(rt: HostRuntime) {
-    let is_released = is_played_over::<FiledWorld, MemoryStore, Brand, HostRuntime>(
+    let is_released = is_played_over::<FiledWorld, TestStore, Brand, HostRuntime>(
         &rt,
         rt.alloc(),
-        opened(&rt, rt.alloc(), files_with_a(&rt, rt.alloc())),
+        opened(&rt, rt.alloc(), whole(files_with_a(&rt, rt.alloc()))),
         NewHistory::new(),
         Play::IsReleased,
     );
@@ -152,7 +153,7 @@ fn with_ample_memory_a_seat_releases_the_lock_that_it_hands_in(rt: HostRuntime) 
 
 #[test]
 fn with_ample_memory_a_repository_in_files_releases_the_lock_that_is_handed_in(rt: HostRuntime) {
-    let stored = opened(&rt, rt.alloc(), files_with_a(&rt, rt.alloc()));
+    let stored = opened(&rt, rt.alloc(), whole(files_with_a(&rt, rt.alloc())));
     let is_released = is_released_in_files(&rt, rt.alloc(), stored);
     assert!(rt; is_released);
 }
@@ -162,8 +163,8 @@ fn a_commit_whose_locks_are_not_released_is_made(rt: HostRuntime) {
     let mut are_told = true;
     for left in [Left::Old, Left::New, Left::Torn] {
         for (passes, wanted) in ROWS.iter() {
-            let store = FuseStore::new(files_with_a(&rt, rt.alloc()), *passes, left);
-            are_told &= is_played_over::<FiledWorld, FuseStore<MemoryStore>, Brand, HostRuntime>(
+            let store = failing(files_with_a(&rt, rt.alloc()), *passes, left);
+            are_told &= is_played_over::<FiledWorld, TestStore, Brand, HostRuntime>(
                 &rt,
                 rt.alloc(),
                 opened(&rt, rt.alloc(), store),

@@ -83,6 +83,13 @@ impl<'r, F: Filed, S: Store, J: Naming, R: Wait> Drop for Place<'r, F, S, J, R> 
     }
 }
 
+impl<'r, F: Filed, S: Store, J: Naming, R: Abort + Wait> Place<'r, F, S, J, R> {
+    /// Gives what all seats share.
+    pub(crate) fn shared(&self) -> Arc<ServedRepo<F, S, J>> {
+        Arc::try_clone(&self.repository).expect(self.rt, "memory")
+    }
+}
+
 impl<'r, F: Filed, S: Store, J: Naming, R: Wait> Place<'r, F, S, J, R> {
     /// Gives the seat as a session reaches it.
     pub(crate) fn into_access(self) -> Access<'r, F, S, J, R> {

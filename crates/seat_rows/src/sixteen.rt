@@ -5,6 +5,7 @@ use crate::commits::{ask_for, commit_of};
 use crate::files::{bytes, files_with_a, lock_ask, path_a};
 use crate::plays::{Act, Marks, act_in};
 use crate::seats::{Place, SoundTrees, opened, places};
+use crate::stores::{TestStore, whole};
 use access::RepoAccess;
 use byte_string::ByteString;
 use filed_opening::FolderRepository;
@@ -19,7 +20,7 @@ use std::sync::Wait;
 use std::sync::atomic::{AtomicBool, Ordering};
 use std::thread;
 use std::thread::Threads;
-use store_files::{MemoryStore, Store};
+use store_files::Store;
 
 /// How many seats there are.
 const SEATS: usize = 16;
@@ -253,10 +254,10 @@ where
 #[test]
 fn nothing_is_lost_where_sixteen_work_at_once(rt: HostRuntime) {
     let files = files_with_a(&rt, rt.alloc());
-    let is_whole = is_whole_behind_all::<MemoryStore, Brand, HostRuntime>(
+    let is_whole = is_whole_behind_all::<TestStore, Brand, HostRuntime>(
         &rt,
         rt.alloc(),
-        opened(&rt, rt.alloc(), files),
+        opened(&rt, rt.alloc(), whole(files)),
         NewHistory::new(),
     );
     assert!(rt; is_whole);

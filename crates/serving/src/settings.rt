@@ -1,6 +1,7 @@
 //! What sessions are served by.
 ghost use Rattle.std.specs.Prelude.{◌≡◌, ℕ, List, IfOk, Some, string_bytes};
 ghost use Rattle.cram.specs.UsersFile.{AreRight, file_lines, logins_of};
+ghost use Rattle.serving.specs.Asked.{CountsAreAsked, OptionsAreAsked};
 
 use crate::fault::ServingFault;
 use crate::reason::Reason;
@@ -99,13 +100,8 @@ pub fn read_settings<R: Runtime>(
     alloc: Global,
     service: &Service,
 ) -> Result<Settings, ServingFault>
-    ensures options { IfOk result (λ s. (bytes : List ℕ) × AreRight (file_lines bytes) × (s.options ≡ record {
-      name = string_bytes service.now.name;
-      users = Some (logins_of (file_lines bytes));
-      revprops = service.now.revprops;
-    })) }
-    ensures counts { IfOk result (λ s. (s.sessions ≡ service.now.sessions)
-        × (s.per_address ≡ service.now.per_address)) }
+    ensures options { IfOk result (OptionsAreAsked service.now) }
+    ensures counts { IfOk result (CountsAreAsked service.now) }
 {
     if !is_repository_name(service.name.as_str()) {
         return Err(ServingFault::Name);

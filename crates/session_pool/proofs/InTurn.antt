@@ -1,8 +1,9 @@
 -- Callers that are served in turn.
 use Rattle.std.proofs.Common.{ℕ, List, [], ◌∷◌, ◌++◌, refl, subst}
-use Rattle.std.specs.Prelude.{Option}
+use Rattle.std.specs.Prelude.{Option, Result}
 use Rattle.access.specs.Points.{AccessRules}
 use Rattle.machine.specs.declared.env.Env.{Env}
+use Rattle.conversations.specs.declared.fault.TalkFault.{TalkFault}
 use Rattle.session_pool.specs.Serving.{IsServed, ServesAll, ServesInTurn, Stand}
 
 module _ {E : Type 0} (rules : AccessRules) (gives : E → Env → E → Type 0) where
@@ -10,15 +11,17 @@ module _ {E : Type 0} (rules : AccessRules) (gives : E → Env → E → Type 0)
   pub serves_none : (old : Stand E) → ServesInTurn rules gives old old
   serves_none old = record { turns = []; served = refl }
 
-  all_and_one : (old mid new : Stand E) (turns : List (Stand E)) (input output : Option (List ℕ)) → ServesAll rules gives old turns mid
-      → IsServed rules gives input output mid new → ServesAll rules gives old (turns ++ new ∷ []) new
-  all_and_one old mid new [] input output same one = ((input, output, subst (λ s. IsServed rules gives input output s new) same one), refl)
-  all_and_one old mid new (first ∷ turns) input output (here, later) one = (here, all_and_one first mid new turns input output later one)
+  module _ (result : Result (Unit {0}) TalkFault) (input output unread written : Option (List ℕ)) where
+    all_and_one : (old mid new : Stand E) (turns : List (Stand E)) → ServesAll rules gives old turns mid
+        → IsServed rules gives result input output unread written mid new → ServesAll rules gives old (turns ++ new ∷ []) new
+    all_and_one old mid new [] same one =
+        ((result, input, output, unread, written, subst (λ s. IsServed rules gives result input output unread written s new) same one), refl)
+    all_and_one old mid new (first ∷ turns) (here, later) one = (here, all_and_one first mid new turns later one)
 
-  -- and one more
-  pub serves_one_more : (old mid new : Stand E) (input output : Option (List ℕ)) → ServesInTurn rules gives old mid
-      → IsServed rules gives input output mid new → ServesInTurn rules gives old new
-  serves_one_more old mid new input output h one = record {
-    turns = h.turns ++ new ∷ [];
-    served = all_and_one old mid new h.turns input output h.served one;
-  }
+    -- and one more
+    pub serves_one_more : (old mid new : Stand E) → ServesInTurn rules gives old mid
+        → IsServed rules gives result input output unread written mid new → ServesInTurn rules gives old new
+    serves_one_more old mid new h one = record {
+      turns = h.turns ++ new ∷ [];
+      served = all_and_one old mid new h.turns h.served one;
+    }

@@ -22,13 +22,12 @@ stands point a = stand a.worker.options.now (point a.worker.access.access) a.wor
 abbrev pub settings_of : {G W : Type 0} → SessionPool G W → Settings
 settings_of pool = pool.options.now
 
--- A caller was served, from what its ends held: it was greeted, and what it sent was answered, as far as it was read.
+-- A caller was served, from what its ends held to what they hold: it was greeted, and what it sent was answered, as
+-- far as it was read, and so it ended.
 pub record IsServed {E : Type 0} (rules : AccessRules) (gives : E → Env → E → Type 0)
-    (input output : Option (List ℕ)) (old new : Stand E) : Type 0 where
+    (result : Result (Unit {0}) TalkFault) (input output unread written : Option (List ℕ))
+    (old new : Stand E) : Type 0 where
   pub settings : new.settings ≡ old.settings
-  pub result : Result (Unit {0}) TalkFault
-  pub unread : Option (List ℕ)
-  pub written : Option (List ℕ)
   pub served : Served result rules old.settings gives (sight old.point input output old.envs)
       (sight new.point unread written new.envs)
 
@@ -37,8 +36,9 @@ abbrev pub ServesAll : {E : Type 0} → AccessRules → (E → Env → E → Typ
     → List (Stand E) → Stand E → Type 0
 ServesAll rules gives old [] new = new ≡ old
 ServesAll rules gives old (mid ∷ later) new =
-    ((input : Option (List ℕ)) × (output : Option (List ℕ))
-    × IsServed rules gives input output old mid)
+    ((result : Result (Unit {0}) TalkFault) × (input : Option (List ℕ)) × (output : Option (List ℕ))
+    × (unread : Option (List ℕ)) × (written : Option (List ℕ))
+    × IsServed rules gives result input output unread written old mid)
     × ServesAll rules gives mid later new
 
 pub record ServesInTurn {E : Type 0} (rules : AccessRules) (gives : E → Env → E → Type 0)

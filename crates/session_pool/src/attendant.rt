@@ -1,12 +1,11 @@
 //! What serves callers at a repository.
 
 use access::RepoAccess;
-use conversations::{EnvSource, Gate, Watch, Worker};
+use conversations::{EnvSource, Gate, TalkFault, Watch, Worker};
 use machine::Options;
 use presence::{AttendedAccess, Presence};
 use std::alloc::Global;
 use std::io::{Read, Write};
-use std::mem::drop;
 
 /// A connection that was accepted: the number of its session, its two ends, and its client, where that is to be asked
 /// whether it is still there.
@@ -60,28 +59,28 @@ impl<'w, A: RepoAccess + Drop, E: EnvSource + Drop, G: Gate, W: Watch, P: Presen
         }
     }
 
-    /// Serves a caller, closes both its ends and lets its client go, and answers whether changes have come to a halt.
-    pub(crate) fn serve<I: Read + Drop, O: Write + Drop>(&mut self, caller: Caller<I, O, P>) -> bool
+    /// Serves a caller, and lets its client go. Its ends stay open.
+    pub(crate) fn serve<I: Read, O: Write>(
+        &mut self,
+        caller: &mut Caller<I, O, P>,
+    ) -> Result<(), TalkFault>
         requires { AreSound (content_of (stands A.point self.old).point).revisions }
         ensures sound { AreSound (content_of (stands A.point self.new).point).revisions }
-        ensures halted { result ≡ (stands A.point self.new).point.halted }
-        ensures served { IsServed A.rules E.gives (I.remaining caller.input)
-            (O.contents caller.output) (stands A.point self.old) (stands A.point self.new) }
+        ensures served { IsServed A.rules E.gives result (I.remaining caller.old.input)
+            (O.contents caller.old.output) (I.remaining caller.new.input)
+            (O.contents caller.new.output) (stands A.point self.old) (stands A.point self.new) }
     {
-        let Caller {
-            number,
-            mut input,
-            mut output,
-            client,
-        } = caller;
         let worker = &mut self.worker;
-        worker.access.attend(client);
-        // a connection that fails is closed
-        if let Err(fault) = worker.serve(number, &mut input, &mut output) {
-            worker.watch.given_up(number, &fault);
-        }
-        drop((input, output));
+        worker.access.attend(caller.client.take());
+        let done = worker.serve(caller.number, &mut caller.input, &mut caller.output);
         worker.access.attend(None);
-        worker.access.is_halted()
+        done
+    }
+
+    /// Says whether changes are known to have come to a halt.
+    pub(crate) fn is_halted(&self) -> bool
+        ensures { result ≡ (stands A.point self.now).point.halted }
+    {
+        self.worker.access.is_halted()
     }
 }

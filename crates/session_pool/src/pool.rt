@@ -4,12 +4,13 @@ use crate::admission::Admission;
 use crate::attendant::{Attendant, Caller};
 use crate::places::Places;
 use access::RepoAccess;
-use conversations::{EnvSource, Gate, Watch};
+use conversations::{EnvSource, Gate, TalkFault, Watch};
 use crossbeam_channel::Receiver;
 use machine::Options;
 use presence::Presence;
 use std::alloc::Global;
 use std::io::{Read, Write};
+use std::mem::drop;
 use std::sync::{Mutex, Wait};
 
 /// What the threads of a server share: what it was started with, the gate that each piece passes, who is told of
@@ -61,6 +62,18 @@ impl<'p, G: Gate, W: Watch> SessionPool<'p, G, W> {
         self.places.lock(rt).leave();
     }
 
+    /// Tells how a session has ended, and gives its place back. Once changes have come to a halt no session begins any more.
+    fn end<R: Wait>(&self, rt: &R, number: u64, done: Result<(), TalkFault>, is_halted: bool) {
+        if let Err(fault) = done {
+            self.watch.given_up(number, &fault);
+        }
+        if is_halted {
+            self.places.lock(rt).halt();
+        }
+        self.leave(rt);
+        self.watch.ended(number, is_halted);
+    }
+
     /// Makes what serves callers at an access to the repository, with the options of the pool.
     pub fn attendant<A: RepoAccess + Drop, E: EnvSource + Drop, P: Presence>(
         &self,
@@ -92,16 +105,14 @@ impl<'p, G: Gate, W: Watch> SessionPool<'p, G, W> {
             (stands A.point attendant.new) }
     {
         for _ in rt.forever() {
-            let Ok(caller) = callers.recv(rt) else {
+            let Ok(mut caller) = callers.recv(rt) else {
                 return;
             };
             let number = caller.number;
-            let is_halted = attendant.serve(caller);
-            if is_halted {
-                self.places.lock(rt).halt();
-            }
-            self.leave(rt);
-            self.watch.ended(number, is_halted);
+            let done = attendant.serve(&mut caller);
+            // a connection that fails is closed
+            drop(caller);
+            self.end(rt, number, done, attendant.is_halted());
         }
     }
 

@@ -58,7 +58,7 @@ module _ (rules : AccessRules) (others : (p q : Point) → rules.between p q →
         of_step p a q step,
       )
 
-  of_pieces : (s : Settings) (p : Point) (phase : Stage) (pieces : List Piece) (told : List Reply) (q : Point) (phase' : Stage)
+  pub of_pieces : (s : Settings) (p : Point) (phase : Stage) (pieces : List Piece) (told : List Reply) (q : Point) (phase' : Stage)
       → PiecesAt rules s p phase pieces told q phase' → OwnPieces s phase pieces p.own q.own phase'
   of_pieces s p phase [] told q phase' (none, same, here) = (ap (λ (x : Point). x.own) same, here)
   of_pieces s p phase (piece ∷ pieces) told q phase' (first, after, mid, stage, more, run, rest, is) = (
@@ -69,12 +69,9 @@ module _ (rules : AccessRules) (others : (p q : Point) → rules.between p q →
     of_pieces s mid stage pieces more q phase' rest,
   )
 
-  of_lost : (s : Settings) (env : Env) (p : Point) (phase : Stage) (stream : List ℕ) (q : Point) (writes : List ℕ → Type 0)
-      → FeedLost rules s env p phase stream q writes → OwnOfBroken s phase p.own q.own
+  pub of_lost : (s : Settings) (env : Env) (p : Point) (phase : Stage) (stream : List ℕ) (q : Point) (writes : List ℕ → Type 0)
+      → (h : FeedLost rules s env p phase stream q writes) → OwnOfBroken s env h.inputs h.left phase p.own q.own
   of_lost s env p phase stream q writes h = record {
-    env = env;
-    inputs = h.inputs;
-    left = h.left;
     mid = h.point_after.own;
     env_after = h.env_after;
     phase_after = h.phase_after;
@@ -103,7 +100,7 @@ module _ (rules : AccessRules) (others : (p q : Point) → rules.between p q →
       mid = h.before.point.own;
       phase = h.phase;
       heard = of_pieces s old.point Greeted h.converses.pieces h.converses.told h.before.point h.phase h.converses.run;
-      rest = inr (of_lost s h.env h.before.point h.phase (h.rest ++ h.bytes) new.point (writes h.before.output new.output) h.lost);
+      rest = inr (h.env, h.lost.inputs, h.lost.left, of_lost s h.env h.before.point h.phase (h.rest ++ h.bytes) new.point (writes h.before.output new.output) h.lost);
     }
 
     unmoved : (old new : Sight E) → new.point ≡ old.point → OwnOfSession s old.point.own new.point.own
@@ -120,19 +117,19 @@ module _ (rules : AccessRules) (others : (p q : Point) → rules.between p q →
     of_session (Err NoMemory) old new (inr (greeted, greets, h)) = of_broken _ (record old { output = greeted }) new h
 
   module _ {E : Type 0} (gives : E → Env → E → Type 0) where
-    of_caller : (input output : Option (List ℕ)) (old new : Stand E) → IsServed rules gives input output old new
-        → OwnOfSession old.settings old.point.own new.point.own
-    of_caller input output old new h =
-        of_session old.settings gives h.result (sight old.point input output old.envs) (sight new.point h.unread h.written new.envs) h.served
+    of_caller : (result : Result (Unit {0}) TalkFault) (input output unread written : Option (List ℕ)) (old new : Stand E)
+        → IsServed rules gives result input output unread written old new → OwnOfSession old.settings old.point.own new.point.own
+    of_caller result input output unread written old new h =
+        of_session old.settings gives result (sight old.point input output old.envs) (sight new.point unread written new.envs) h.served
 
     of_all : (old : Stand E) (turns : List (Stand E)) (new : Stand E) → ServesAll rules gives old turns new
         → (later : List (List Accepted)) × OwnInTurn old.settings old.point.own later new.point.own
     of_all old [] new same = ([], ap (λ (x : Stand E). x.point.own) same)
-    of_all old (mid ∷ turns) new ((input, output, one), later) =
+    of_all old (mid ∷ turns) new ((result, input, output, unread, written, one), later) =
         let rest = of_all mid turns new later in (
           mid.point.own ∷ rest.0,
           (
-            of_caller input output old mid one,
+            of_caller result input output unread written old mid one,
             subst (λ (s : Settings). OwnInTurn s mid.point.own rest.0 new.point.own) one.settings rest.1,
           ),
         )

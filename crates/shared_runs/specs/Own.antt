@@ -33,11 +33,9 @@ OwnPieces s phase (piece ∷ pieces) before after phase' =
     × OwnChanges s piece.env phase piece.inputs before mid env stage
     × OwnPieces s stage pieces mid after phase'
 
--- some inputs of one piece more, at which a session broke off
-pub record OwnOfBroken (s : Settings) (phase : Stage) (before after : List Accepted) : Type 0 where
-  pub env : Env
-  pub inputs : List Input
-  pub left : Option Input
+-- so it is of these inputs of one piece more, at which a session broke off, and of this one, which it left
+pub record OwnOfBroken (s : Settings) (env : Env) (inputs : List Input) (left : Option Input)
+    (phase : Stage) (before after : List Accepted) : Type 0 where
   pub mid : List Accepted
   pub env_after : Env
   pub phase_after : Stage
@@ -50,7 +48,9 @@ pub record OwnOfSession (s : Settings) (before after : List Accepted) : Type 0 w
   pub mid : List Accepted
   pub phase : Stage
   pub heard : OwnPieces s Greeted pieces before mid phase
-  pub rest : (after ≡ mid) ⊎ OwnOfBroken s phase mid after
+  pub rest : (after ≡ mid)
+      ⊎ ((env : Env) × (inputs : List Input) × (left : Option Input)
+      × OwnOfBroken s env inputs left phase mid after)
 
 -- through sessions, one after another: so it was after each
 abbrev pub OwnInTurn : Settings → List Accepted → List (List Accepted) → List Accepted → Type 0

@@ -1,17 +1,28 @@
 //! What holds of a repository that threads share. The functions do nothing: their contracts are the laws.
-ghost use Rattle.std.specs.Prelude.{◌<◌, ◌++◌, List, length};
+ghost use Rattle.std.specs.Prelude.{◌<◌, ◌++◌, ℕ, List, length};
 ghost use Rattle.repo_api.specs.Accepted.{Accepted};
+ghost use Rattle.access.specs.Points.{Point};
+ghost use Rattle.wire_replies.specs.declared.reply.Reply.{Reply};
+ghost use Rattle.machine.specs.{Settings.Settings, Stages.Stage, Steps.FeedLost, declared.env.Env.Env};
+ghost use Rattle.conversations.specs.{Conversation.PiecesAt, Pieces.Piece};
 ghost use Rattle.published.specs.Events.{Event, IsHistory, changes_in, state_of};
 ghost use Rattle.session_pool.specs.Serving.{ServesInTurn, Stand};
-ghost use Rattle.shared_runs.specs.{Histories.GoesOnWell, Own.OwnInTurn};
+ghost use Rattle.shared_runs.specs.{Histories.GoesOnWell, Own.{OwnInTurn, OwnOfBroken, OwnPieces}};
 
 use access::SharedAccess;
 use conversations::EnvSource;
 
 /// Shows that what is an access's own, of the changes of the repository, is what the sessions that were served at it have asked
-/// for by their inputs, in this order, each answered as the machine answers it: there is no other, and none is left out.
+/// for by their inputs, in this order, each answered as the machine answers it: there is no other, and none is left out. So it
+/// is of the pieces that one session was fed, of the inputs of the piece at which it broke off, and of sessions in turn.
 pub fn own_changes_are_asked_for<A: SharedAccess, E: EnvSource>()
-    ensures { (old new : Stand E) → ServesInTurn A.rules E.gives old new
+    ensures pieces { (s : Settings) (p : Point) (phase : Stage) (pieces : List Piece) (told : List Reply)
+        (q : Point) (phase' : Stage) → PiecesAt A.rules s p phase pieces told q phase'
+        → OwnPieces s phase pieces p.own q.own phase' }
+    ensures broken { (s : Settings) (env : Env) (p : Point) (phase : Stage) (stream : List ℕ) (q : Point)
+        (lost : FeedLost A.rules s env p phase stream q (λ _. Unit {0}))
+        → OwnOfBroken s env lost.inputs lost.left phase p.own q.own }
+    ensures turns { (old new : Stand E) → ServesInTurn A.rules E.gives old new
         → (turns : List (List Accepted)) × OwnInTurn old.settings old.point.own turns new.point.own }
 {}
 

@@ -9,7 +9,6 @@ use repo_api::{ChangeFault, CommitAsk, LockAsk, PropertyAsk, Repository, UnlockA
 use std::sync::{Arc, Wait};
 
 /// The lock of a repository that others change too, and what waits for it.
-#[derive(Drop)]
 pub struct LockedChanges<
     R: Repository,
     S: Archive<R>,
@@ -20,6 +19,22 @@ pub struct LockedChanges<
 > {
     pub repository: Arc<Locked<R, S, J, T, O>>,
     pub rt: W,
+}
+
+impl<
+    R: Repository,
+    S: Archive<R>,
+    J: Naming,
+    T: Absorb<O> + Carries<Published<R, J>> + Drop,
+    O: Sets<Published<R, J>> + Drop,
+    W: Wait + Drop,
+> Drop for LockedChanges<R, S, J, T, O, W> {
+    fn drop(self) {
+        let LockedChanges {
+            repository: _,
+            rt: _,
+        } = self;
+    }
 }
 
 /// A repository that others change too, as one session reaches it: its seat looks and has no runtime, and what waits

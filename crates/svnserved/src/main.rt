@@ -2,6 +2,7 @@
 #![tactic(auto)]
 
 ghost use Rattle.std.specs.Prelude.{◌≡◌, IfOk, None};
+ghost use Rattle.serving.specs.Asked.{CountsAreAsked, OptionsAreAsked};
 
 mod fault;
 mod migrating;
@@ -138,7 +139,10 @@ fn open_to_write(
 fn prepare(
     rt: &HostRuntime,
     service: &Service,
-) -> Result<(Settings, FolderRepository<DiskStore>), ProgramFault> {
+) -> Result<(Settings, FolderRepository<DiskStore>), ProgramFault>
+    ensures options { IfOk result (λ prepared. OptionsAreAsked service.now prepared.0) }
+    ensures counts { IfOk result (λ prepared. CountsAreAsked service.now prepared.0) }
+{
     let settings = read_settings(rt, rt.alloc(), service)?;
     match &service.location {
         Location::Folder(folder) => Ok((settings, open_to_write(rt, folder)?)),

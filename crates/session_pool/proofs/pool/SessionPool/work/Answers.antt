@@ -7,7 +7,7 @@ loop-preserved g c =
     let seen = stands g.A.RepoAccess.point in (
       tt,
       tt,
-      c.serve-is_halted.ensures.sound,
-      serves_one_more g.A.RepoAccess.rules g.E.EnvSource.gives (seen c.args.attendant.now) (seen c.loop.attendant)
-          (seen c.serve-is_halted.new.self) _ _ c.loop.invariant.3 c.serve-is_halted.ensures.served,
+      c.serve-done.ensures.sound,
+      serves_one_more g.A.RepoAccess.rules g.E.EnvSource.gives _ _ _ _ _ (seen c.args.attendant.now) (seen c.loop.attendant)
+          (seen c.serve-done.new.self) c.loop.invariant.3 c.serve-done.ensures.served,
     )

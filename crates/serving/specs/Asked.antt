@@ -1,0 +1,19 @@
+-- What a server is asked to serve by, and what it serves by.
+use Rattle.std.specs.Prelude.{◌≡◌, ℕ, List, Some, string_bytes}
+use Rattle.cram.specs.UsersFile.{AreRight, file_lines, logins_of}
+use Rattle.command_line.specs.declared.order.Service.{Service}
+use Rattle.serving.specs.declared.settings.Settings.{Settings}
+
+-- the name that was asked for, the users of some file whose lines are right, and whether the properties
+-- of revisions may be changed
+abbrev pub OptionsAreAsked : Service → Settings → Type 0
+OptionsAreAsked service s =
+    (bytes : List ℕ) × AreRight (file_lines bytes) × (s.options ≡ record {
+      name = string_bytes service.name;
+      users = Some (logins_of (file_lines bytes));
+      revprops = service.revprops;
+    })
+
+-- how many sessions there may be at a time, and how many of one address
+abbrev pub CountsAreAsked : Service → Settings → Type 0
+CountsAreAsked service s = (s.sessions ≡ service.sessions) × (s.per_address ≡ service.per_address)
