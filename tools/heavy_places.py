@@ -1,0 +1,154 @@
+"""The rows of `heavy-load` that take places and do nothing with them."""
+
+import os
+import select
+import socket
+import time
+
+import spelling
+from clients import FULL, Client, Ended, Refused, connect
+from heavy import MEBIBYTE, PLACES, edit, told_in_journal
+from spelling import CLOSE_EDIT, add_directory, add_file, delta, document
+
+
+def is_over(connection):
+    """Whether the server has closed a connection, of which what it has sent was read."""
+    if not select.select([connection], [], [], 0)[0]:
+        return False
+    try:
+        return connection.recv(1, socket.MSG_PEEK) == b""
+    except OSError:
+        return True
+
+
+def greeted(row):
+    """A connection that was greeted, and has sent nothing."""
+    connection = connect(row.server.port)
+    while not connection.recv(4096).endswith(b") ) ) "):
+        pass
+    return connection
+
+
+def comes(row, what, seconds=5):
+    """A client comes, and has to be served within some seconds."""
+    begun = time.monotonic()
+    try:
+        with Client(row.server.port) as client:
+            client.youngest()
+        took = time.monotonic() - begun
+        row.say(f"{what}, one that comes is served after {took * 1000:.0f} ms")
+        if took > seconds:
+            row.fail(f"{what}, one that comes is served after {took:.1f} s")
+    except (OSError, Ended, Refused) as error:
+        row.fail(f"{what}, one that comes is not served: {error}")
+
+
+def is_refused(row, what):
+    """A client comes, and has to be refused after some five seconds."""
+    begun = time.monotonic()
+    with connect(row.server.port) as connection:
+        told = connection.recv(4096)
+        took = time.monotonic() - begun
+        row.say(f"{what}, one that comes is told {told.decode()!r} after {took:.2f} s")
+        if told != FULL or not 4.9 < took < 6:
+            row.fail(f"{what}, one that comes is told {told!r} after {took:.2f} s")
+
+
+def silent(row):
+    """Strangers that send nothing."""
+    begun = time.monotonic()
+    strangers = [greeted(row) for _ in range(PLACES)]
+    is_refused(row, f"{PLACES} strangers have come")
+    time.sleep(begun + 11 - time.monotonic())
+    comes(row, f"{PLACES} strangers have sent nothing for ten seconds")
+    gone = sum(map(is_over, strangers))
+    if gone != 1:
+        row.fail(f"{gone} strangers have given their places up, and not one")
+    time.sleep(begun + 118 - time.monotonic())
+    if sum(map(is_over, strangers)) != gone:
+        row.fail("a stranger has gone within two minutes")
+    time.sleep(begun + 122 - time.monotonic())
+    gone = sum(map(is_over, strangers))
+    row.say(f"after two minutes {gone} strangers have gone, by the journal {told_in_journal(row, 'has not logged in')} without a login")
+    if gone != PLACES:
+        row.fail(f"after two minutes {PLACES - gone} strangers are there")
+    for connection in strangers:
+        connection.close()
+
+
+def idle(row):
+    """Clients that have logged in, and send nothing."""
+    for _ in range(PLACES):
+        row.client()
+        time.sleep(0.1)
+    time.sleep(10)
+    comes(row, f"{PLACES} clients have sent nothing for ten seconds")
+    gone = [number for number, client in enumerate(row.clients) if is_over(client.socket)]
+    if gone != [0]:
+        row.fail(f"the clients {gone} have given their places up, and not the first")
+    row.clients[-1].youngest()
+
+
+def reports(row):
+    """Reports that are left open, and an edit."""
+    begun = time.monotonic()
+    alice = row.client("alice")
+    alice.send(spelling.commit("edit") + spelling.open_root() + add_directory("d", "d0", "d1"))
+    for _ in range(2):
+        alice.succeed()
+    for _ in range(PLACES - 1):
+        client = row.client()
+        client.send(spelling.update() + spelling.set_path("", 0))
+        client.succeed()
+    last = time.monotonic()
+    time.sleep(begun + 11 - time.monotonic())
+    is_refused(row, "reports are open for ten seconds")
+    time.sleep(last + 121 - time.monotonic())
+    comes(row, "reports are open for two minutes")
+    gone = sum(is_over(client.socket) for client in row.clients[1:])
+    if gone != 1:
+        row.fail(f"{gone} reports have given their places up, and not one")
+    alice.send(CLOSE_EDIT)
+    alice.succeed()
+    alice.succeed()
+    row.say(f"the edit that was silent longest has made revision {alice.item()[0]}")
+
+
+def taking(row):
+    """A client that takes nothing."""
+    client, text = row.client("alice"), document(os.urandom(2**24 - 2**16))
+    pieces = [text[begin : begin + MEBIBYTE] for begin in range(0, len(text), MEBIBYTE)]
+    edit(client, add_file("f", "d0", "c1"), *delta("c1", *pieces))
+    client.send(spelling.get_file("f") * 4)
+    begun = time.monotonic()
+    while not told_in_journal(row, "is given up: write") and time.monotonic() < begun + 200:
+        time.sleep(0.1)
+    took = time.monotonic() - begun
+    row.say(f"the session of a client that takes nothing has ended after {took:.1f} s")
+    if not 59 < took < 65:
+        row.fail(f"the session of a client that takes nothing has ended after {took:.1f} s")
+
+
+def journal(row):
+    """A journal that nobody reads."""
+    count, begun = 2000, time.monotonic()
+    for _ in range(count):
+        greeted(row).close()
+    row.say(f"{count} clients have come and gone in {time.monotonic() - begun:.1f} s")
+    comes(row, "nobody reads the journal, and then")
+    row.settle()
+    lines, dropped = [], 0
+    error = row.server.process.stderr
+    os.set_blocking(error.fileno(), False)
+    for _ in range(20):
+        lines += (error.read() or b"").splitlines()
+        time.sleep(0.1)
+    with Client(row.server.port):
+        row.settle(1)
+        lines += (error.read() or b"").splitlines()
+    for line in lines:
+        if b"were dropped: " in line:
+            dropped += int(line.rpartition(b" ")[2])
+    row.say(f"{len(lines)} lines are in the journal, and {dropped} were dropped")
+    if not dropped or len(lines) + dropped < 2 * count:
+        row.fail(f"the journal has {len(lines)} lines, and tells of {dropped} that were dropped")
