@@ -12,10 +12,11 @@ import socket
 import subprocess
 import sys
 import time
-from multiprocessing import Event, Pipe, Process
+from multiprocessing import Event, Pipe, Process, Value
 from pathlib import Path
 
-from spelling import ANONYMOUS, CRAM_MD5, LATEST, TEXTS, greeting_answer, proof
+import spelling
+from spelling import ANONYMOUS, CLOSE_EDIT, CRAM_MD5, LATEST, TEXTS, greeting_answer, proof
 
 USERS = {"alice": b"secret", "bob": b"hidden"}
 NAME = "r"
@@ -23,6 +24,9 @@ URL = "svn://127.0.0.1/r"
 
 # of how many revisions a shard is where borders of shards are to be crossed
 SMALL_SHARD = 2
+
+# how long a client that is watched waits for an answer before it gives up, in seconds
+LONGEST_WAIT = 120
 
 # what a client is told that finds no place, and what it is told behind a halt
 FULL = b"( failure ( ( 200007 13:not supported 0: 0 ) ) ) "
@@ -116,26 +120,33 @@ def failure_of(item):
     raise IllFormed(f"a refusal that no table has: {item}")
 
 
-def connect(port, timeout=60):
-    """A connection to a server of this machine."""
-    return socket.create_connection(("127.0.0.1", port), timeout=timeout)
+def connect(port, timeout=60, address=None):
+    """A connection to a server of this machine, from an address of this machine."""
+    return socket.create_connection(("127.0.0.1", port), timeout, (address, 0) if address else None)
+
+
+class Tally:
+    """How many bytes clients have sent."""
+
+    sent = 0
 
 
 class Client:
-    """A plain client: a connection, and the items that come."""
+    """A plain client: a connection, and the items that come. What it sends is counted in a tally, which others may share."""
 
-    def __init__(self, port, user=None, url=URL, timeout=60):
-        self.socket = connect(port, timeout)
+    def __init__(self, port, user=None, url=URL, timeout=60, address=None, password=None, tally=None):
+        self.socket = connect(port, timeout, address)
         self.socket.setsockopt(socket.IPPROTO_TCP, socket.TCP_NODELAY, 1)
         self.stream = ItemStream()
         self.waiting = []
+        self.tally = tally or Tally()
         try:
-            self.log_in(user, url)
+            self.log_in(user, url, password)
         except BaseException:
             self.socket.close()
             raise
 
-    def log_in(self, user, url):
+    def log_in(self, user, url, password=None):
         """The exchanges up to the first command."""
         self.greeting = self.item()
         if self.greeting[0] != "success":
@@ -149,12 +160,13 @@ class Client:
             told = self.item()
             if told[0] != "step":
                 raise IllFormed(f"a challenge is {told}")
-            self.send(proof(user, USERS[user], told[1][0].decode()))
+            self.send(proof(user, password or USERS[user], told[1][0].decode()))
         self.succeed()
         self.repository = self.succeed()
 
     def send(self, content):
-        """Sends bytes."""
+        """Sends bytes, and counts them."""
+        self.tally.sent += len(content)
         self.socket.sendall(content)
 
     def item(self):
@@ -202,6 +214,14 @@ class Refused(Exception):
     def __init__(self, failure):
         super().__init__(failure)
         self.number, self.text = failure or (None, None)
+
+
+def edit(client, *commands):
+    """Makes a commit. Gives its revision."""
+    client.send(spelling.commit("commit") + spelling.open_root() + b"".join(commands) + CLOSE_EDIT)
+    for _ in range(4):
+        client.succeed()
+    return client.item()[0]
 
 
 def read_until_end(client, content, limit, cuts=(), closes=True):
@@ -276,9 +296,9 @@ def sharded(size):
 
 class Server:
     """A server that runs at a repository in a folder. Where it is missing it is made, of a format, and with shards of so many
-    revisions if that is said. Its standard error goes to a file, or to a pipe that nobody reads."""
+    revisions if that is said. Its standard error goes to a file, or to a pipe that nobody reads. It may have further options."""
 
-    def __init__(self, program, room, address_space=None, format=3, shard=None, is_read=True):
+    def __init__(self, program, room, address_space=None, format=3, shard=None, is_read=True, options=()):
         self.program, self.folder, self.port = program, room / "repository", free_port()
         self.users, self.journal = room / "users", room / "journal"
         if not self.folder.exists():
@@ -288,7 +308,7 @@ class Server:
         self.users.write_bytes(b"[users]\n" + b"".join(b"%s = %s\n" % (name.encode(), word) for name, word in USERS.items()))
         self.users.chmod(0o600)
         words = [program, "serve", self.folder, "--listen", f"127.0.0.1:{self.port}", "--name", NAME]
-        words += ["--users", self.users, "--revprops"]
+        words += ["--users", self.users, "--revprops", *options]
         if address_space:
             words = ["prlimit", f"--as={address_space}", *words]
         with self.journal.open("ab") as journal:
@@ -306,6 +326,11 @@ class Server:
         """How long processors have worked for it, in seconds."""
         words = Path(f"/proc/{self.pid}/stat").read_text().rpartition(")")[2].split()
         return (int(words[11]) + int(words[12])) / os.sysconf("SC_CLK_TCK")
+
+    def sessions(self):
+        """How many sessions are open, by the journal; none where nobody reads it."""
+        journal = self.journal.read_text()
+        return journal.count(" begins, of ") - journal.count(" ends\n")
 
     def fault(self):
         """How it has ended, if it has."""
@@ -355,48 +380,102 @@ class OtherServer(Server):
                 time.sleep(0.05)
         sys.exit("svnserve does not listen")
 
+    def sessions(self):
+        """Nobody knows how many sessions are open."""
+        return 0
+
     def verify(self):
         """What is wrong with the folder, by Subversion's own program, if anything is."""
         verified = subprocess.run(["svnadmin", "verify", "-q", self.folder], stdin=subprocess.DEVNULL, capture_output=True, text=True)
         return f"svnadmin verify: {verified.stderr}" if verified.returncode != 0 else None
 
 
-def watch(port, pause, limit, stop, told):
-    """Asks for the youngest revision, again and again, and tells how often, the longest wait, and what went wrong."""
+class Waits:
+    """What a client of another process waits for: since when, if it does, and the longest wait since that was asked last."""
+
+    def __init__(self):
+        self.since, self.longest = Value("d", 0.0), Value("d", 0.0)
+
+    def begin(self):
+        """A wait begins."""
+        self.since.value = time.monotonic()
+
+    def end(self):
+        """It ends. How long it was."""
+        took = time.monotonic() - self.since.value
+        self.longest.value, self.since.value = max(self.longest.value, took), 0.0
+        return took
+
+    def recent(self):
+        """The longest wait since this was asked last, with one that has not ended yet."""
+        longest, since = self.longest.value, self.since.value
+        self.longest.value = 0.0
+        return max(longest, time.monotonic() - since if since else 0.0)
+
+
+def commits_of(client):
+    """What makes a commit: a property of a file of its own gets another value."""
+    edit(client, spelling.add_file("beside", "d0", "c1"), spelling.close_file("c1"))
+
+    def commit():
+        value = b"%d" % time.monotonic_ns()
+        edit(client, spelling.open_file("beside", "d0", "c1"), spelling.file_property("c1", "p", value), spelling.close_file("c1"))
+
+    return commit
+
+
+def watch(port, pause, commits, stop, waits, told):
+    """Asks for the youngest revision, again and again, or commits, and tells how often, the longest wait, how late the machine has
+    let it go on after a pause, and what went wrong."""
     signal.signal(signal.SIGINT, signal.SIG_IGN)
-    count, slowest, fault = 0, 0.0, None
+    count, slowest, late, fault = 0, 0.0, 0.0, None
     try:
-        with Client(port, timeout=limit) as client:
+        with Client(port, "bob" if commits else None, timeout=LONGEST_WAIT) as client:
+            ask = commits_of(client) if commits else client.youngest
+            begun = time.monotonic()
             while not stop.wait(pause):
-                begun = time.monotonic()
-                client.youngest()
-                slowest = max(slowest, time.monotonic() - begun)
-                count += 1
+                late = max(late, time.monotonic() - begun - pause)
+                waits.begin()
+                ask()
+                slowest = max(slowest, waits.end())
+                count, begun = count + 1, time.monotonic()
     except (OSError, Ended, IllFormed, Refused) as error:
-        fault = f"a plain client beside it: {type(error).__name__}: {error}"
-    told.send((count, slowest, fault))
+        fault = f"{type(error).__name__}: {error}"
+    told.send((count, slowest, late, fault))
 
 
 class Watch:
-    """A plain client in a process of its own, which has one place of the server from here to its end."""
+    """A plain client in a process of its own, which has one place of the server from here to its end. It asks, or it commits, and
+    has to be answered within some seconds at each moment."""
 
-    def __init__(self, port, limit, pause=0.02):
-        self.stop = Event()
+    def __init__(self, port, limit, pause=0.02, commits=False):
+        self.name = "a client that commits" if commits else "a plain client"
+        self.limit, self.stop, self.waits = limit, Event(), Waits()
         self.told, tells = Pipe(False)
-        self.process = Process(target=watch, args=(port, pause, limit, self.stop, tells), daemon=True)
+        words = port, pause, commits, self.stop, self.waits, tells
+        self.process = Process(target=watch, args=words, daemon=True)
         self.process.start()
         tells.close()
+
+    def recent(self):
+        """The longest wait since this was asked last, in seconds."""
+        return self.waits.recent()
 
     def fault(self):
         """What has gone wrong so far, if anything has."""
         return self.end()[2] if self.told.poll() else None
 
     def end(self):
-        """How often it was answered, the longest wait in seconds, and what went wrong, if anything did."""
+        """How often it was answered, the longest wait in seconds, and what went wrong, if anything did. `late` is how many seconds
+        late it has gone on after a pause, at most: so much is due to the machine, and not to the server."""
         if not hasattr(self, "result"):
             self.stop.set()
-            self.result = self.told.recv()
+            count, slowest, self.late, fault = self.told.recv()
             self.process.join()
+            if not fault and slowest > self.limit:
+                late = f"the machine was late by {self.late * 1000:.0f} ms"
+                fault = f"it was answered after {slowest * 1000:.0f} ms, and {self.limit * 1000:.0f} ms are the limit; {late}"
+            self.result = count, slowest, fault and f"{self.name} beside it: {fault}"
         return self.result
 
 

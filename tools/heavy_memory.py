@@ -4,9 +4,9 @@ import time
 from pathlib import Path
 
 import spelling
-from clients import Client, connect, failure_of, forget_peak, mebibytes
-from heavy import MEBIBYTE, PLACES, goes_on, takes_at_most, vanish
-from spelling import add_directory, add_file, delta, document, string
+from clients import Client, connect, edit, failure_of, forget_peak, mebibytes
+from heavy import MEBIBYTE, PLACES, asks, goes_on, listed, takes_at_most
+from spelling import add_directory, add_file, close_file, delta, document, string
 
 STRING = 2**24
 # how much of one item a session holds at most: bytes as it logs in, bytes of a command, items of a command without a user and
@@ -16,13 +16,19 @@ ITEM_LIMIT = 2**25 + 2**17
 ITEMS_WITHOUT_USER, ITEMS_WITH_USER = 200_000, 650_000
 IN_BETWEEN = 32 * MEBIBYTE
 # how much memory fifteen sessions take at most that go on within an item of tiny ones, or without a user send a whole command of
-# them; that have logged in, and send one; and how much one takes that goes on within an item of long strings, in MiB
-WORDS_LIMIT, COMMANDS_LIMIT, STRINGS_LIMIT = 256, 1024, 40
+# words or of lists of one; that send one of lists of so many words, which cost most; that have logged in, and send one; and how
+# much one takes that goes on within an item of long strings, in MiB
+WORDS_LIMIT, LISTS_LIMIT, COMMANDS_LIMIT, STRINGS_LIMIT = 256, 300, 1024, 40
+# of how many words the lists are that cost most for each: of those of 17, 33 and 65 these did; the room doubles for the last one
+DEAREST = 65
 # how many bytes of addresses the server has where an edit does not end
 ADDRESS_SPACE = 2**30
 # how many text deltas an edit may have open at once, and how much memory a report may take, in MiB
 OPEN_DELTAS = 255
 REPORT_LIMIT = 192
+# how long a lock's comment may be, how many files a directory has that is listed, and how much memory a session takes at most that
+# is told of many locks or files, in MiB
+COMMENT, LISTED, LISTING_LIMIT = 2**16, 20_000, 4
 
 
 def announced(row):
@@ -81,14 +87,12 @@ def texts(row):
     row.settle(4)
     row.measure(f"{PLACES} edits have a text of 16 MiB each", PLACES * 60)
     row.say(f"peak {(row.server.memory()[1] - row.first) / PLACES / 1024:.1f} MiB an edit")
-    for client in row.clients:
-        vanish(client)
-    row.clients.clear()
+    row.vanish(*row.clients)
     row.settle()
     row.measure("they have gone", 64)
     with Client(row.server.port) as client:
-        if client.youngest() != 0:
-            row.fail("an edit that was not ended has made a revision")
+        if any(client.ask(spelling.check_path(f"f{number}")) != ["none"] for number in range(PLACES)):
+            row.fail("an edit that was not ended has made a file")
 
 
 def item(row):
@@ -102,9 +106,10 @@ def item(row):
 
 def begun_login(row):
     """A connection of which the greeting is read, and its answer begun."""
-    client = connect(row.server.port)
+    client, begin = connect(row.server.port), b"( 2 ( "
     client.recv(4096)
-    client.sendall(b"( 2 ( ")
+    client.sendall(begin)
+    row.tally.sent += len(begin)
     return client
 
 
@@ -114,6 +119,7 @@ def go_on(row, clients, piece, limit):
     left, sent, begun = list(clients), 0, time.monotonic()
     while left and sent <= limit + IN_BETWEEN and time.monotonic() < begun + 300:
         for client in list(left):
+            row.tally.sent += len(piece)
             try:
                 client.sendall(piece)
             except OSError:
@@ -146,13 +152,15 @@ def words(row):
         row.leave()
         takes_at_most(row, what, WORDS_LIMIT)
         row.settle()
-    for what, user, items, limit in (
-        ("without a user", None, ITEMS_WITHOUT_USER - 100, WORDS_LIMIT),
-        ("with a user", "alice", ITEMS_WITH_USER - 100, COMMANDS_LIMIT),
+    for what, user, items, limit, most in (
+        ("without a user", None, ITEMS_WITHOUT_USER - 100, WORDS_LIMIT, LISTS_LIMIT),
+        ("with a user", "alice", ITEMS_WITH_USER - 100, COMMANDS_LIMIT, COMMANDS_LIMIT),
     ):
         whole_commands(row, f"{what}, commands of {items:,} words", user, b"a " * items, limit)
         lists = items // 2
         whole_commands(row, f"{what}, commands of {lists:,} lists of one word", user, b"( a ) " * lists, limit)
+        lists, dearest = items // (DEAREST + 1), b"( " + b"a " * DEAREST + b") "
+        whole_commands(row, f"{what}, commands of {lists:,} lists of {DEAREST} words", user, dearest * lists, most)
     goes_on(row, COMMANDS_LIMIT)
 
 

@@ -6,9 +6,12 @@ import socket
 import time
 
 import spelling
-from clients import FULL, Client, Ended, Refused, connect
-from heavy import MEBIBYTE, PLACES, edit, told_in_journal
-from spelling import CLOSE_EDIT, add_directory, add_file, delta, document
+from clients import FULL, URL, Client, Ended, Refused, connect, edit
+from heavy import MEBIBYTE, PLACES, told_in_journal
+from spelling import CLOSE_EDIT, CRAM_MD5, add_directory, add_file, delta, document, greeting_answer, string
+
+# an address of this machine that no other client has, how many sessions it may have, and how many come beyond these
+STRANGER, PER_ADDRESS, COMING = "127.0.0.2", 4, 200
 
 
 def is_over(connection):

@@ -1,15 +1,20 @@
-"""The rows of `heavy-load` that ask for much work."""
+"""The rows of `heavy-load` that send many commands, or make much by few."""
 
+import os
 import select
 import time
 
 import spelling
-from clients import ItemStream
-from heavy import MEBIBYTE, edit, timed, vanish
-from spelling import CLOSE_EDIT, FINISH_REPORT, LATEST, add_directory, add_file, delta, document, open_directory, string
+from clients import URL, edit, mebibytes
+from heavy import MEBIBYTE
+from spelling import LATEST, NO_TEXT, add_directory, add_file, close_file, delta, document, integer, open_directory, open_file, string, window
 
 # how many commands the edits of the rows `properties` and `tokens` have
 EDITS = [1000, 2000, 4000, 8000, 16000]
+# how long a text of a file may be, and how much memory an edit may take, in MiB
+TEXT, EDIT_LIMIT = 2**24, 4096
+# how long a window of svndiff is that svnserve takes
+WINDOW = 2**16
 
 
 def commands(row):
@@ -23,7 +28,8 @@ def commands(row):
     while place < wanted and time.monotonic() < begun + 600:
         ready, writable, _ = select.select([client.socket], [client.socket] if sent < len(content) else [], [], 1)
         if writable:
-            sent += client.socket.send(content[sent : sent + MEBIBYTE])
+            taken = client.socket.send(content[sent : sent + MEBIBYTE])
+            sent, client.tally.sent = sent + taken, client.tally.sent + taken
         if ready:
             piece = client.socket.recv(len(answer) * 1000)
             begin = place % len(answer)
@@ -81,147 +87,3 @@ def grows(row, what, commands):
         row.say(f"{count} {what}: {took:.2f} s, {worked:.2f} s of a processor, {worked / count * 1e6:.0f} us each")
     if costs[-1] > 4 * costs[0] + 0.0001:
         row.fail(f"of {EDITS[-1]} {what} each takes {costs[-1] * 1e6:.0f} us, and of {EDITS[0]} {costs[0] * 1e6:.0f} us")
-
-
-def log_of(client, path, changes=True):
-    """The entries of a log."""
-    client.send(spelling.log([path], b"", b"0 ", changes))
-    client.succeed()
-    told = []
-    while (found := client.item()) != "done":
-        told.append(found)
-    client.succeed()
-    return told
-
-
-def tower(client, top, copies):
-    """A directory with a file, which is copied into itself. Gives the longest time that a copy took."""
-    revision = edit(client, add_directory(top, "d0", "d1"), add_file(f"{top}/f", "d1", "c1"), *delta("c1", document(b"hello")))
-    slowest = 0
-    for number in range(1, copies + 1):
-        source = string(f"svn://127.0.0.1/r/{top}") + b"%d " % revision
-        begun = time.monotonic()
-        revision = edit(client, open_directory(top, "d0", "d1"), add_directory(f"{top}/{number}", "d1", "d2", source))
-        slowest = max(slowest, time.monotonic() - begun)
-    return slowest
-
-
-def drive(row, what, *commands):
-    """A drive that is read for some seconds, and then cut off. It has to send, and to end."""
-    client, came, begun, first = row.client("bob"), 0, time.monotonic(), None
-    stream, seconds = ItemStream(), row.options.seconds
-    client.send(b"".join(commands))
-    client.socket.settimeout(0.2)
-    while time.monotonic() < begun + seconds:
-        try:
-            piece = client.socket.recv(262_144)
-        except TimeoutError:
-            continue
-        if not piece:
-            break
-        came += len(piece)
-        for told in stream.feed(piece):
-            if first is None and isinstance(told, list) and told[0] == "add-dir" or told[0] == "open-dir":
-                first = time.monotonic() - begun
-    row.say(f"{what}: {came / seconds / MEBIBYTE:.2f} MiB a second, the first directory {'never' if first is None else f'after {first * 1000:.0f} ms'}")
-    if first is None:
-        row.fail(f"{what} has sent nothing of the tree in {seconds} s")
-    before = row.measure(f"{what}, after {seconds} s", 64)
-    vanish(row.clients.pop())
-    row.settle(3)
-    now = row.measure("its client has gone")
-    if now > before + 4096:
-        row.fail(f"{what} goes on where its client has gone")
-
-
-def copies(row):
-    """A directory that is copied into itself."""
-    count, alice = row.options.copies, row.client("alice")
-    for top in "de":
-        row.say(f"{count} copies of /{top} into itself, the longest {tower(alice, top, count) * 1000:.1f} ms")
-    inner = "d/" + "/".join(map(str, range(count, 0, -1)))
-    deep = inner + "/f"
-    if timed(row, "a look at the deepest file", alice.ask, spelling.check_path(deep)) != ["file"]:
-        row.fail("the deepest file is none")
-    timed(row, "what is known of it", alice.ask, spelling.stat(deep))
-    timed(row, "a listing of the directory", alice.ask, spelling.get_directory("d"))
-    timed(row, "a listing within it", alice.ask, spelling.get_directory(f"d/{count}/{count - 1}"))
-    if len(timed(row, "a log of the deepest file", log_of, alice, deep)) != count + 1:
-        row.fail("the log of the deepest file has not one revision for each copy, and its own")
-    timed(row, "a log of everything", log_of, alice, "")
-    timed(row, "a lock of the deepest file", alice.ask, spelling.lock(deep))
-    if len(timed(row, "the locks under the directory", alice.ask, spelling.get_locks("d"))[0]) != 1:
-        row.fail("the lock is not among the locks")
-    timed(row, "an unlock", alice.ask, spelling.unlock(deep, breaks=True))
-    opened, names = [], [deep]
-    while "/" in names[0]:
-        names.insert(0, names[0].rpartition("/")[0])
-    for depth, path in enumerate(names[:-1]):
-        opened.append(open_directory(path, f"d{depth}", f"d{depth + 1}"))
-    last = f"d{len(names) - 1}"
-    change = [*opened, spelling.open_file(deep, last, "c1"), *delta("c1", document(b"changed")), spelling.close_file("c1")]
-    timed(row, "a commit of the deepest file", edit, alice, *change)
-    bob = row.client("bob")
-    bob.send(spelling.commit("merged") + spelling.open_root())
-    bob.succeed()
-    bob.succeed()
-    edit(alice, add_directory("x", "d0", "d1"))
-    changed = [*opened, spelling.file_property("c1", "p", b"v")]
-    changed.insert(-1, spelling.open_file(deep, last, "c1"))
-
-    def merge():
-        bob.send(b"".join(changed) + CLOSE_EDIT)
-        bob.succeed()
-        bob.succeed()
-        return bob.item()
-
-    timed(row, "a commit of it that is merged with another", merge)
-    timed(row, "a delete of a copy within it", edit, alice, spelling.open_directory("e", "d0", "d1"), spelling.delete_entry(f"e/{count}", "d1"))
-    revision = alice.youngest()
-    row.measure("behind that", 16)
-    again = spelling.set_path("", 0, True)
-    drive(row, "a checkout of everything", spelling.update(), again, FINISH_REPORT)
-    drive(row, "a status against nothing", spelling.status(), again, FINISH_REPORT)
-    switch = spelling.reparent("svn://127.0.0.1/r/d"), spelling.switch("svn://127.0.0.1/r/e"), spelling.set_path("", revision), FINISH_REPORT
-    drive(row, "a switch from one such directory to the other", *switch)
-
-
-def many(client, tops, count):
-    """Directories of so many directories of so many each, made by one commit."""
-    commands = []
-    for top in tops:
-        commands.append(add_directory(top, "d0", "d1"))
-        for outer in range(count):
-            commands.append(add_directory(f"{top}/{outer}", "d1", "d2"))
-            for inner in range(count):
-                commands.append(add_directory(f"{top}/{outer}/{inner}", "d2", "d3") + spelling.close_directory("d3"))
-            commands.append(spelling.close_directory("d2"))
-        commands.append(spelling.close_directory("d1"))
-    return edit(client, *commands)
-
-
-def searches(row):
-    """A drive that has nothing to say, of a client that waits for its end, and of one that goes."""
-    revision = many(row.client("alice"), "ab", 300)
-    switch = spelling.reparent("svn://127.0.0.1/r/a") + spelling.switch("svn://127.0.0.1/r/b")
-    switch += spelling.set_path("", revision) + FINISH_REPORT
-    staying, begun, told = row.client("bob"), time.monotonic(), []
-    staying.send(switch)
-    while told[-1:] != [["close-edit", []]]:
-        told.append(staying.item())
-    took = time.monotonic() - begun
-    row.say(f"a switch between directories of {300 * 301:,} that are alike: {took:.2f} s, {len(told)} items")
-    if row.is_other:
-        return
-    ended = row.server.journal.read_text().count(" ends\n")
-    going = row.client("bob")
-    going.send(switch)
-    time.sleep(0.1)
-    going.close()
-    begun = time.monotonic()
-    while row.server.journal.read_text().count(" ends\n") == ended and time.monotonic() < begun + 2 * took:
-        time.sleep(0.01)
-    after = time.monotonic() - begun
-    row.say(f"a client that goes meanwhile: its session ends after {after:.2f} s")
-    if after > took / 4:
-        row.fail(f"the search of a client that has gone goes on for {after:.2f} s")

@@ -1,0 +1,150 @@
+"""The rows of `heavy-load` that ask for drives of large trees, and change them."""
+
+import time
+
+import spelling
+from clients import URL, ItemStream, edit
+from heavy import DONE_WITHIN, MEBIBYTE, PLACES, goes_within, listed, timed
+from spelling import CLOSE_EDIT, FINISH_REPORT, add_directory, add_file, close_file, delta, document, open_directory, open_file, string
+
+
+def tower(client, tops, copies):
+    """Directories with a file, each of which is copied into itself, all by the same commits. Gives the last revision, and the
+    longest time that a copy took."""
+    made = ([add_directory(top, "d0", top), add_file(f"{top}/f", top, "c1"), *delta("c1", document(b"hello")), close_file("c1")] for top in tops)
+    revision, slowest = edit(client, *sum(made, [])), 0
+    for number in range(1, copies + 1):
+        copied = []
+        for top in tops:
+            source = string(f"{URL}/{top}") + b"%d " % revision
+            copied += [open_directory(top, "d0", top), add_directory(f"{top}/{number}", top, f"{top}{number}", source)]
+        begun = time.monotonic()
+        revision = edit(client, *copied)
+        slowest = max(slowest, time.monotonic() - begun)
+    return revision, slowest
+
+
+def opened(path):
+    """The commands that open each directory above a path, and the token of the last one."""
+    names = path.split("/")
+    above = ["/".join(names[:depth]) for depth in range(1, len(names))]
+    return [open_directory(name, f"d{depth}", f"d{depth + 1}") for depth, name in enumerate(above)], f"d{len(above)}"
+
+
+def switch_of(old, new, revision):
+    """A switch of one directory to another, of which the client has all that is in a revision."""
+    ask = spelling.reparent(f"{URL}/{old}") + spelling.switch(f"{URL}/{new}")
+    return ask + spelling.set_path("", revision) + FINISH_REPORT
+
+
+def driven(client, commands, seconds):
+    """What a drive sends up to its end, or for so many seconds; and whether it has come to its end."""
+    told, until = [], time.monotonic() + seconds
+    client.send(commands)
+    try:
+        while told[-1:] != [["close-edit", []]] and (left := until - time.monotonic()) > 0:
+            client.socket.settimeout(left)
+            told.append(client.item())
+    except TimeoutError:
+        pass
+    return told, told[-1:] == [["close-edit", []]]
+
+
+def drive(row, what, *commands):
+    """A drive that is read for some seconds, and then cut off. It has to send, and to end."""
+    client, came, begun, first = row.client("bob"), 0, time.monotonic(), None
+    stream, seconds = ItemStream(), row.options.seconds
+    client.send(b"".join(commands))
+    client.socket.settimeout(0.2)
+    while time.monotonic() < begun + seconds:
+        try:
+            piece = client.socket.recv(262_144)
+        except TimeoutError:
+            continue
+        if not piece:
+            break
+        came += len(piece)
+        for told in stream.feed(piece):
+            if first is None and told[0] in ("add-dir", "open-dir"):
+                first = time.monotonic() - begun
+    row.say(f"{what}: {came / seconds / MEBIBYTE:.2f} MiB a second, the first directory {'never' if first is None else f'after {first * 1000:.0f} ms'}")
+    if first is None:
+        row.fail(f"{what} has sent nothing of the tree in {seconds} s")
+    row.measure(f"{what}, after {seconds} s", 64)
+    took = row.vanish(client)
+    if not row.is_other:
+        row.say(f"its client has gone: its place is free after {took:.2f} s")
+
+
+def copies(row):
+    """A directory that is copied into itself."""
+    count, alice = row.options.copies, row.client("alice")
+    for top in "de":
+        row.say(f"{count} copies of /{top} into itself, the longest {tower(alice, top, count)[1] * 1000:.1f} ms")
+    inner = "d/" + "/".join(map(str, range(count, 0, -1)))
+    deep = inner + "/f"
+    if timed(row, "a look at the deepest file", alice.ask, spelling.check_path(deep)) != ["file"]:
+        row.fail("the deepest file is none")
+    timed(row, "what is known of it", alice.ask, spelling.stat(deep))
+    timed(row, "a listing of the directory", alice.ask, spelling.get_directory("d"))
+    timed(row, "a listing within it", alice.ask, spelling.get_directory(f"d/{count}/{count - 1}"))
+    if len(timed(row, "a log of the deepest file", listed, alice, spelling.log([deep], b"", b"0 ", True))) != count + 1:
+        row.fail("the log of the deepest file has not one revision for each copy, and its own")
+    timed(row, "a log of everything", listed, alice, spelling.log([""], b"", b"0 ", True))
+    timed(row, "a lock of the deepest file", alice.ask, spelling.lock(deep))
+    if len(timed(row, "the locks under the directory", alice.ask, spelling.get_locks("d"))[0]) != 1:
+        row.fail("the lock is not among the locks")
+    timed(row, "an unlock", alice.ask, spelling.unlock(deep, breaks=True))
+    above, last = opened(deep)
+    change = [*above, open_file(deep, last, "c1"), *delta("c1", document(b"changed")), close_file("c1")]
+    timed(row, "a commit of the deepest file", edit, alice, *change)
+    bob = row.client("bob")
+    bob.send(spelling.commit("merged") + spelling.open_root())
+    bob.succeed()
+    bob.succeed()
+    edit(alice, add_directory("x", "d0", "d1"))
+    other = [*above, open_file(deep, last, "c1"), spelling.file_property("c1", "p", b"v")]
+
+    def merge():
+        bob.send(b"".join(other) + CLOSE_EDIT)
+        bob.succeed()
+        bob.succeed()
+        return bob.item()
+
+    timed(row, "a commit of it that is merged with another", merge)
+    timed(row, "a delete of a copy within it", edit, alice, spelling.open_directory("e", "d0", "d1"), spelling.delete_entry(f"e/{count}", "d1"))
+    revision = alice.youngest()
+    row.measure("behind that", 16)
+    again = spelling.set_path("", 0, True)
+    drive(row, "a checkout of everything", spelling.update(), again, FINISH_REPORT)
+    drive(row, "a status against nothing", spelling.status(), again, FINISH_REPORT)
+    drive(row, "a switch from one such directory to the other", switch_of("d", "e", revision))
+
+
+def many(client, tops, count):
+    """Directories of so many directories of so many each, made by one commit."""
+    commands = []
+    for top in tops:
+        commands.append(add_directory(top, "d0", "d1"))
+        for outer in range(count):
+            commands.append(add_directory(f"{top}/{outer}", "d1", "d2"))
+            for inner in range(count):
+                commands.append(add_directory(f"{top}/{outer}/{inner}", "d2", "d3") + spelling.close_directory("d3"))
+            commands.append(spelling.close_directory("d2"))
+        commands.append(spelling.close_directory("d1"))
+    return edit(client, *commands)
+
+
+def searches(row):
+    """A drive that has nothing to say, of a client that waits for its end, and of those that go."""
+    width = row.options.width
+    switch = switch_of("a", "b", many(row.client("alice"), "ab", width))
+    with row.attack(f"a switch between directories of {width * (width + 1):,} that are alike") as cost:
+        told, _is_over = driven(row.client(), switch, row.patience())
+    row.say(f"it is told {len(told):,} items")
+    if row.is_other:
+        return
+    for what, further in (("such a switch", b""), ("such a switch, with a byte that is not read", b"(")):
+        took = goes_within(row, what, switch + further)
+        if took > cost.seconds / 4:
+            row.fail(f"the search of a client that goes within {what} goes on for {took:.2f} s")
