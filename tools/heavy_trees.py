@@ -50,6 +50,11 @@ def driven(client, commands, seconds):
     return told, told[-1:] == [["close-edit", []]]
 
 
+def entries_in(told):
+    """How many entries a drive opens, adds and deletes."""
+    return sum(item[0] in ("open-dir", "open-file", "add-dir", "add-file", "delete-entry") for item in told)
+
+
 def drive(row, what, *commands):
     """A drive that is read for some seconds, and then cut off. It has to send, and to end."""
     client, came, begun, first = row.client("bob"), 0, time.monotonic(), None
@@ -148,3 +153,79 @@ def searches(row):
         took = goes_within(row, what, switch + further)
         if took > cost.seconds / 4:
             row.fail(f"the search of a client that goes within {what} goes on for {took:.2f} s")
+
+
+def alike(row):
+    """A switch between two trees of a million million entries that are alike in all that is sent."""
+    count, alice = row.options.copies, row.client("alice")
+    with row.attack(f"{count} copies of /p and /q into themselves"):
+        revision, _slowest = tower(alice, "pq", count)
+    switch, seconds = switch_of("p", "q", revision), row.options.seconds
+    has_nothing(row, "a switch from the one to the other", 1, switch, seconds)
+    if not row.is_other:
+        has_nothing(row, f"{PLACES - 1} such switches at once", PLACES - 1, switch, seconds)
+
+
+def has_nothing(row, what, count, commands, seconds):
+    """Drives of clients that come together have to say nothing, and to end at once."""
+    clients = [row.client() for _ in range(count)]
+    with row.attack(what) as cost:
+        for client in clients:
+            client.send(commands)
+        drives = [driven(client, b"", seconds) for client in clients]
+    entries = sum(entries_in(told) for told, _is_over in drives)
+    row.say(f"{what}: {sum(is_over for _told, is_over in drives)} of {count} have come to their end, with {entries:,} entries")
+    if entries or not all(is_over for _told, is_over in drives):
+        row.fail(f"{what}: not all have ended within {seconds} s without an entry")
+    if cost.seconds > DONE_WITHIN:
+        row.fail(f"{what} took {cost.seconds:.1f} s")
+    row.go(*clients)
+
+
+def chain(client, top, depth, width):
+    """A directory in another, so many times, each with so many files, made by one commit. Gives the path of the deepest."""
+    commands, path = [], top
+    for level in range(depth):
+        commands.append(add_directory(path, f"d{level}", f"d{level + 1}"))
+        for number in range(width):
+            commands.append(add_file(f"{path}/{number}", f"d{level + 1}", "c1") + close_file("c1"))
+        last, path = path, f"{path}/d"
+    edit(client, *commands)
+    return last
+
+
+def says(row, what, commands, most):
+    """A drive has to end at once, with few entries."""
+    client, seconds = row.client(), row.patience()
+    with row.attack(what) as cost:
+        told, is_over = driven(client, commands, seconds)
+    if not is_over or entries_in(told) > most:
+        row.fail(f"{what}: it is told {len(told)} items, of {entries_in(told)} entries")
+    if cost.seconds > row.options.within:
+        row.fail(f"{what} took {cost.seconds:.2f} s")
+    row.go(client)
+
+
+def deep(row):
+    """Reports that delete one file in the deepest of many directories."""
+    alice, depth = row.client("alice"), 58
+    with row.attack(f"{depth} directories in one another, of 400 files each"):
+        wide = chain(alice, "t", depth, 400)
+    revision, _slowest = tower(alice, "u", depth)
+    copied = "u/" + "/".join(map(str, range(depth, 0, -1)))
+    for what, path in (("of 400 files each", f"{wide}/0"), ("that are copies of one another", f"{copied}/f")):
+        report = spelling.update("", b"%d " % revision) + spelling.set_path("", revision)
+        report += spelling.delete_path(path) + FINISH_REPORT
+        says(row, f"a report that deletes a file, {depth} directories deep, {what}", report, path.count("/") + 1)
+
+
+def changed(row):
+    """An update of one changed file in the deepest of some directories."""
+    alice, depth = row.client("alice"), 12
+    path = f"{chain(alice, 't', depth, 400)}/0"
+    above, last = opened(path)
+    for number in range(5):
+        before = alice.youngest()
+        after = edit(alice, *above, open_file(path, last, "c1"), *delta("c1", document(b"%d" % number)), close_file("c1"))
+        update = spelling.reparent(f"{URL}/t") + spelling.update("", b"%d " % after) + spelling.set_path("", before) + FINISH_REPORT
+        says(row, f"an update of one changed file, {depth} directories of 400 files deep", update, depth)
