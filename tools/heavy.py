@@ -208,6 +208,18 @@ def listed(client, command):
     return told
 
 
+def asks(row, what, answer, *given):
+    """A client asks for something, and takes it. Gives what it is told, which is nothing where that takes too long."""
+    client, told = row.client(timeout=row.patience()), []
+    try:
+        with row.attack(what):
+            told = answer(client, *given)
+    except TimeoutError:
+        row.fail(f"{what} takes more than {row.patience()} s")
+    row.go(client)
+    return told
+
+
 def told_in_journal(row, part):
     """How many lines of the journal have this in them."""
     return sum(part in line for line in row.server.journal.read_text().splitlines())

@@ -1,0 +1,84 @@
+"""The rows of `heavy-load` that ask for the history of many revisions."""
+
+import spelling
+from clients import URL, edit
+from heavy import asks, goes_within, listed
+from spelling import add_directory, add_file, close_file, delete_entry, open_directory, open_file, string
+
+# how many paths and revisions are named in one command: as many as an item has room for without a user, but for some
+NAMED = 190_000
+# how many dates are asked for in one piece
+DATES = 1_000
+
+
+def changes(client, count, commands):
+    """So many commits, by the commands of each number. Gives the last revision."""
+    for number in range(count):
+        revision = edit(client, *commands(number))
+    return revision
+
+
+def answered(client, command, count):
+    """What one command is answered that is sent so many times in one piece."""
+    client.send(command * count)
+    return [client.succeed() for _ in range(2 * count)][1::2]
+
+
+def locations(row):
+    """Where a path was, or went, in all revisions."""
+    count, alice = row.options.revisions, row.client("alice")
+    first = edit(alice, *(add_file(name, "d0", name) + close_file(name) for name in ("f", "m0", "r")))
+
+    def change(number):
+        moved = string(f"{URL}/m{number}") + b"%d " % alice.youngest()
+        property = [open_file("f", "d0", "c1"), spelling.file_property("c1", "p", b"%d" % number), close_file("c1")]
+        return [*property, delete_entry(f"m{number}", "d0"), add_file(f"m{number + 1}", "d0", "c2", moved), close_file("c2")]
+
+    changed = changes(alice, count, change)
+    source = string(f"{URL}/f") + b"%d " % changed
+    last = changes(alice, count // 2, lambda _number: [delete_entry("r", "d0"), add_file("r", "d0", "c1", source), close_file("c1")])
+    everywhere = range(first, last + 1)
+    for what, path, peg, revisions, most in (
+        ("a file that was changed, back", "f", last, everywhere, len(everywhere)),
+        ("a file that was changed, on", "f", first, everywhere, len(everywhere)),
+        ("a file that was moved each time, back", f"m{count}", last, everywhere, count),
+        ("a file that was replaced by copies, on", "r", first, everywhere, 1),
+        ("a file that was changed, at the first and the last revision in turns", "f", last, [first, last] * (NAMED // 2), 2),
+    ):
+        told = asks(row, f"{len(revisions):,} locations of {what}", listed, spelling.locations(path, peg, revisions))
+        if len(told) < most and not row.is_other:
+            row.fail(f"of {what} {len(told):,} locations are told, and not {most:,}")
+    if not row.is_other:
+        goes_within(row, "the locations of what was replaced", spelling.locations("r", first, everywhere) * 4)
+
+
+def logs(row):
+    """Logs of many paths, of which each has all revisions to be looked at."""
+    count, files, alice = row.options.revisions, row.options.files, row.client("alice")
+    names = [f"t/{number}" for number in range(files)]
+    edit(alice, add_directory("t", "d0", "d1"), *(add_file(name, "d1", "c1") + close_file("c1") for name in names))
+    begin = open_directory("t", "d0", "d1")
+    last = changes(alice, count, lambda number: [begin, spelling.directory_property("d1", "p", b"%d" % number)])
+    for what, paths, start, end in (
+        (f"a log of one path, {NAMED:,} times", names[:1] * NAMED, last, 0),
+        (f"a falling log of {files:,} files and the root", ["", *names], last, 0),
+        (f"a rising log of {files:,} files and the root", ["", *names], 0, last),
+    ):
+        asks(row, what, listed, spelling.log(paths, b"%d " % start, b"%d " % end))
+    if not row.is_other:
+        goes_within(row, "the rising log", spelling.log(["", *names], b"0 ", b"%d " % last))
+
+
+def dates(row):
+    """Old dates, of revisions that rise, and then of some whose youngest is dated before them all."""
+    alice = row.client("alice")
+    edit(alice, add_file("f", "d0", "c1"), close_file("c1"))
+    begin = open_file("f", "d0", "c1")
+    last = changes(alice, row.options.revisions, lambda number: [begin, spelling.file_property("c1", "p", b"%d" % number)])
+    ask = spelling.get_dated_revision(spelling.date(1))
+    asks(row, f"{DATES:,} old dates, of {last} revisions", answered, ask, DATES)
+    if row.is_other:
+        return
+    alice.ask(spelling.change_revision_property(last, "svn:date", spelling.date(2)))
+    asks(row, f"{DATES:,} old dates, where the youngest of {last} revisions is the oldest", answered, ask, DATES)
+    goes_within(row, f"{20 * DATES:,} of them", ask * 20 * DATES)
