@@ -57,6 +57,73 @@ def is_refused(row, what):
             row.fail(f"{what}, one that comes is told {told!r} after {took:.2f} s")
 
 
+def addresses(row):
+    """An address that has all the sessions that it may have, and comes again and again."""
+    held, slowest = [row.client(address=STRANGER) for _ in range(PER_ADDRESS)], 0
+    with row.attack(f"{COMING} more come of an address that has {PER_ADDRESS}, one after another"):
+        for _ in range(COMING):
+            begun = time.monotonic()
+            refused_by(row, [connect(row.server.port, address=STRANGER)])
+            slowest = max(slowest, time.monotonic() - begun)
+    row.say(f"each is refused after {slowest * 1000:.0f} ms at most")
+    begun = time.monotonic()
+    with row.attack(f"{COMING} more come at once"):
+        more = [connect(row.server.port, address=STRANGER) for _ in range(COMING)]
+        comes(row, f"{COMING} have come of an address that is full", row.options.within)
+        refused_by(row, more)
+    row.say(f"all are refused after {(time.monotonic() - begun) * 1000:.0f} ms")
+    row.settle(0.5)
+    if slowest > row.options.within or told_in_journal(row, "sessions of its address are taken") != 2 * COMING:
+        row.fail(f"an address that is full is refused after {slowest:.2f} s")
+    row.go(held[0])
+    row.client(address=STRANGER).youngest()
+
+
+def refused_by(row, connections):
+    """Connections have to be refused, each at once."""
+    for connection in connections:
+        with connection:
+            told = connection.recv(4096)
+        if told != FULL:
+            row.fail(f"one that comes of an address that is full is told {told!r}")
+
+
+def guesses(row):
+    """Clients that guess a password, are refused, and go."""
+    for count in (1, PLACES):
+        with row.attack(f"{count} guess a password, and go when they are refused"):
+            for _ in range(count):
+                guess(row)
+            took = row.free()
+        row.say(f"their places are free after {took:.2f} s")
+    for _ in range(PLACES):
+        guess_on(row, 1)
+    row.say(f"the places of {PLACES} that go before they are refused are free after {row.free():.2f} s")
+    for _ in range(PLACES):
+        guess_on(row, 4000)
+    row.say(f"the places of {PLACES} that go behind 4,000 guesses are free after {row.free():.2f} s")
+    for _ in range(3 * PLACES):
+        guess(row)
+    comes(row, f"{3 * PLACES} have guessed and gone", 1)
+
+
+def guess(row):
+    """Guesses a password, and goes when it is refused."""
+    try:
+        Client(row.server.port, "alice", password=b"guessed", tally=row.tally)
+    except Refused:
+        return
+    row.fail("a wrong password is taken for the right one")
+
+
+def guess_on(row, count):
+    """Sends so many guesses, and goes."""
+    content = greeting_answer(URL) + (CRAM_MD5 + string(b"alice " + b"0" * 32)) * count
+    with greeted(row) as connection:
+        connection.sendall(content)
+    row.tally.sent += len(content)
+
+
 def silent(row):
     """Strangers that send nothing."""
     begun = time.monotonic()
