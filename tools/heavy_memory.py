@@ -276,3 +276,35 @@ def endless_edit(row):
     took = time.monotonic() - begun
     row.say(f"the session has ended behind {sent} MiB of one edit, {took:.1f} s, where the server has {ADDRESS_SPACE // MEBIBYTE} MiB of addresses")
     goes_on(row)
+
+
+def listings(row):
+    """Locks with long comments, and a directory of many files: all ask for them, and take nothing of what they are told."""
+    alice, count = row.client("alice"), row.options.locks
+    locked = [f"l{number}" for number in range(count)]
+    files = [f"d/{number}" for number in range(LISTED)]
+    made = [add_file(name, "d0", "c1") + close_file("c1") for name in locked]
+    made += [add_directory("d", "d0", "d1"), *(add_file(name, "d1", "c1") + close_file("c1") for name in files)]
+    edit(alice, *made)
+    with row.attack(f"{count} locks are made with comments of {COMMENT:,} bytes"):
+        for name in locked:
+            alice.ask(spelling.lock(name, b"c" * COMMENT))
+    for what, take, command in (
+        (f"{count} such locks", Client.ask, spelling.get_locks("")),
+        (f"a directory of {LISTED:,} files", Client.ask, spelling.get_directory("d")),
+        (f"a log with {LISTED + count + 1:,} changes", listed, spelling.log([""], b"", b"0 ", True)),
+    ):
+        takes_nothing(row, what, command)
+        asks(row, f"one asks for {what}, and takes it", take, command)
+
+
+def takes_nothing(row, what, command):
+    """All clients but one ask for something, and take nothing of it."""
+    clients = [row.client() for _ in range(PLACES - 1)]
+    with row.attack(f"{len(clients)} ask for {what}, and take nothing") as cost:
+        for client in clients:
+            client.send(command)
+        row.settle()
+    if cost.memory > len(clients) * LISTING_LIMIT * 1024:
+        row.fail(f"{len(clients)} that ask for {what} take {mebibytes(cost.memory)}")
+    row.go(*clients)
