@@ -87,3 +87,31 @@ def grows(row, what, commands):
         row.say(f"{count} {what}: {took:.2f} s, {worked:.2f} s of a processor, {worked / count * 1e6:.0f} us each")
     if costs[-1] > 4 * costs[0] + 0.0001:
         row.fail(f"of {EDITS[-1]} {what} each takes {costs[-1] * 1e6:.0f} us, and of {EDITS[0]} {costs[0] * 1e6:.0f} us")
+
+
+def copied(length, offset):
+    """An instruction of svndiff by which so many bytes of the source are copied from a place."""
+    return b"\x00" + integer(length) + integer(offset)
+
+
+def changed_text(number, size):
+    """An svndiff document over a text of 16 MiB, in windows of this size, each with another first byte."""
+    instructions, byte = b"\x81" + copied(size - 1, 1), b"%c" % (number % 256)
+    return NO_TEXT + b"".join(window(begin, size, size, instructions, byte) for begin in range(0, TEXT, size))
+
+
+def saving(row):
+    """A commit of many long texts, of which few bytes are sent."""
+    alice, size = row.client("alice"), WINDOW if row.is_other else TEXT
+    with row.attack("a text of 16 MiB, by copies of one of 64 KiB"):
+        edit(alice, add_file("f", "d0", "c1"), *delta("c1", document(os.urandom(WINDOW))))
+        pieces = b"".join(window(0, WINDOW, WINDOW, copied(WINDOW, 0), b"") for _ in range(TEXT // WINDOW))
+        revision = edit(alice, open_file("f", "d0", "c1"), *delta("c1", NO_TEXT + pieces))
+    source, commands, count = string(f"{URL}/f") + b"%d " % revision, [], row.options.texts
+    for number in range(count):
+        changes = delta("c1", changed_text(number, size))
+        commands += [add_file(f"f{number}", "d0", "c1", source), *changes, close_file("c1")]
+    with row.attack(f"a commit of {count} texts of 16 MiB, which are copied but for a byte") as cost:
+        edit(alice, *commands)
+    if cost.memory > EDIT_LIMIT * 1024:
+        row.fail(f"the edit has taken {mebibytes(cost.memory)}, more than {EDIT_LIMIT} MiB")
