@@ -425,13 +425,14 @@ def commits_of(client):
 
 
 def watch(port, pause, commits, stop, waits, told):
-    """Asks for the youngest revision, again and again, or commits, and tells how often, the longest wait, how late the machine has
-    let it go on after a pause, and what went wrong."""
+    """Asks for the youngest revision, again and again, or commits. It tells that it has a place, and at its end how often it was
+    answered, the longest wait, how late the machine has let it go on after a pause, and what went wrong."""
     signal.signal(signal.SIGINT, signal.SIG_IGN)
     count, slowest, late, fault = 0, 0.0, 0.0, None
     try:
         with Client(port, "bob" if commits else None, timeout=LONGEST_WAIT) as client:
             ask = commits_of(client) if commits else client.youngest
+            told.send(None)
             begun = time.monotonic()
             while not stop.wait(pause):
                 late = max(late, time.monotonic() - begun - pause)
@@ -456,6 +457,8 @@ class Watch:
         self.process = Process(target=watch, args=words, daemon=True)
         self.process.start()
         tells.close()
+        # it has its place before anything else comes, unless it has ended already
+        self.ended = self.told.recv()
 
     def recent(self):
         """The longest wait since this was asked last, in seconds."""
@@ -463,14 +466,14 @@ class Watch:
 
     def fault(self):
         """What has gone wrong so far, if anything has."""
-        return self.end()[2] if self.told.poll() else None
+        return self.end()[2] if self.ended or self.told.poll() else None
 
     def end(self):
         """How often it was answered, the longest wait in seconds, and what went wrong, if anything did. `late` is how many seconds
         late it has gone on after a pause, at most: so much is due to the machine, and not to the server."""
         if not hasattr(self, "result"):
             self.stop.set()
-            count, slowest, self.late, fault = self.told.recv()
+            count, slowest, self.late, fault = self.ended or self.told.recv()
             self.process.join()
             if not fault and slowest > self.limit:
                 late = f"the machine was late by {self.late * 1000:.0f} ms"
