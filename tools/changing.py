@@ -3,7 +3,7 @@
 from typing import NamedTuple
 
 import spelling
-from clients import URL, Client, Ended, ItemStream, Refused, failure_of
+from clients import URL, Client, Ended, ItemStream, Refused, Tally, failure_of
 from spelling import CLOSE_EDIT
 
 # seconds within which each answer comes
@@ -46,14 +46,14 @@ class Caller(Client):
         if through is None:
             super().__init__(port, user, timeout=LIMIT)
             return
-        self.socket, self.stream, self.waiting = through, ItemStream(), []
+        self.socket, self.stream, self.waiting, self.tally = through, ItemStream(), [], Tally()
         self.socket.settimeout(LIMIT)
         self.log_in(None, URL)
 
-    def log_in(self, user, url):
+    def log_in(self, user, url, password=None):
         """The exchanges up to the first command."""
         try:
-            super().log_in(user, url)
+            super().log_in(user, url, password)
         except Ended:
             if failure := failure_of(getattr(self, "greeting", None)):
                 raise Refused(failure) from None
