@@ -100,7 +100,12 @@ module _ (rules : AccessRules) (others : (p q : Point) → rules.between p q →
       mid = h.before.point.own;
       phase = h.phase;
       heard = of_pieces s old.point Greeted h.converses.pieces h.converses.told h.before.point h.phase h.converses.run;
-      rest = inr (h.env, h.lost.inputs, h.lost.left, of_lost s h.env h.before.point h.phase (h.rest ++ h.bytes) new.point (writes h.before.output new.output) h.lost);
+      rest = inr (
+        h.env,
+        h.lost.inputs,
+        h.lost.left,
+        of_lost s h.env h.before.point h.phase (h.rest ++ h.bytes) new.point (writes h.before.output new.output) h.lost,
+      );
     }
 
     unmoved : (old new : Sight E) → new.point ≡ old.point → OwnOfSession s old.point.own new.point.own
