@@ -208,14 +208,17 @@ def listed(client, command):
     return told
 
 
-def asks(row, what, answer, *given):
-    """A client asks for something, and takes it. Gives what it is told, which is nothing where that takes too long."""
+def asks(row, what, answer, *given, most=None):
+    """A client asks for something, and takes it, for which a processor may have at most so many seconds. Gives what it is told, which
+    is nothing where that takes too long."""
     client, told = row.client(timeout=row.patience()), []
     try:
-        with row.attack(what):
+        with row.attack(what) as cost:
             told = answer(client, *given)
     except TimeoutError:
         row.fail(f"{what} takes more than {row.patience()} s")
+    if most is not None and cost.worked > most:
+        row.fail(f"{what} takes {cost.worked:.2f} s of a processor, more than {most} s")
     row.go(client)
     return told
 

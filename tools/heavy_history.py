@@ -9,6 +9,8 @@ from spelling import add_directory, add_file, close_file, delete_entry, open_dir
 NAMED = 190_000
 # how many dates are asked for in one piece
 DATES = 1_000
+# for how many seconds a processor may work at the locations, and at the log, of one command
+LOCATED_WITHIN, LOGGED_WITHIN = 1, 20
 
 
 def changes(client, count, commands):
@@ -45,7 +47,7 @@ def locations(row):
         ("a file that was replaced by copies, on", "r", first, everywhere, 1),
         ("a file that was changed, at the first and the last revision in turns", "f", last, [first, last] * (NAMED // 2), 2),
     ):
-        told = asks(row, f"{len(revisions):,} locations of {what}", listed, spelling.locations(path, peg, revisions))
+        told = asks(row, f"{len(revisions):,} locations of {what}", listed, spelling.locations(path, peg, revisions), most=LOCATED_WITHIN)
         if len(told) < most and not row.is_other:
             row.fail(f"of {what} {len(told):,} locations are told, and not {most:,}")
     if not row.is_other:
@@ -64,7 +66,7 @@ def logs(row):
         (f"a falling log of {files:,} files and the root", ["", *names], last, 0),
         (f"a rising log of {files:,} files and the root", ["", *names], 0, last),
     ):
-        asks(row, what, listed, spelling.log(paths, b"%d " % start, b"%d " % end))
+        asks(row, what, listed, spelling.log(paths, b"%d " % start, b"%d " % end), most=LOGGED_WITHIN)
     if not row.is_other:
         goes_within(row, "the rising log", spelling.log(["", *names], b"0 ", b"%d " % last))
 
@@ -81,4 +83,5 @@ def dates(row):
         return
     alice.ask(spelling.change_revision_property(last, "svn:date", spelling.date(2)))
     asks(row, f"{DATES:,} old dates, where the youngest of {last} revisions is the oldest", answered, ask, DATES)
-    goes_within(row, f"{20 * DATES:,} of them", ask * 20 * DATES)
+    for times in (1, 20):
+        goes_within(row, f"{times * DATES:,} of them", ask * times * DATES)

@@ -4,9 +4,11 @@
 mod archive;
 mod filed_archive;
 mod saving;
+mod served;
 mod sharing;
 mod unsaved;
 
 pub use filed_archive::FiledArchive;
+pub use served::{ServedAccess, ServedChanges};
 pub use sharing::{ServedRepo, ServedSeat, share};
 pub use unsaved::{ChangedFiles, Unsaved};

@@ -6,7 +6,7 @@ use borrow.Author.Tests.{eqb-true}
 use Rattle.svnpath.specs.Paths.{PathValue}
 use Rattle.repo_api.specs.Histories.{History}
 use Rattle.history.proofs.Steps.{ends_at, goes_on_to}
-use Rattle.history.specs.{Gathered.{GoesOn, IsLine, IsNoted, path_from, path_known}, declared.gathering.Line.Line}
+use Rattle.history.specs.{Gathered.{GoesOn, IsNoted, path_known}}
 use Rattle.traces.specs.{Traces.{trace, traced}, declared.place.Place.Place}
 
 pub goes_through : (h : History) (r : ℕ) (a b c : Option Place) → GoesOn h a r b → GoesOn h b r c → GoesOn h a r c
@@ -21,10 +21,6 @@ goes_step h r p next is higher n upto = goes_on_to h n p next is (omega (arith, 
 
 pub goes_end : (h : History) (r : ℕ) (p : Place) → trace h false p ≡ p ∷ traced h false None → r < p.revision → GoesOn h (Some p) r None
 goes_end h r p is higher n upto = sym (ends_at h n p is (omega (arith, higher, upto)))
-
--- a line that goes on
-pub line_on : (h : History) (low r : ℕ) (line : Line) (at : Option Place) → low ≤ r → GoesOn h line.at r at → IsLine h low line → line.back ≡ path_from h at low
-line_on h low r line at upto goes is = is ∙ sym (goes low upto)
 
 -- what a map has, with one revision more
 pub tied_noted : (r n : ℕ) (path : Option PathValue) (old new : Option (Option PathValue)) → new ≡ cond (is_at (nat_cmp r) n) (Some path) old → new ≡ (if r == n then Some path else old)

@@ -10,5 +10,6 @@ pub mod Orders
 pub mod OnTraces
 pub mod Passing
 pub mod Along
+pub mod Together
 pub mod Naming
 pub mod Ends

@@ -1,14 +1,14 @@
 -- Revisions in which nothing happens to a place are passed over.
-use Rattle.std.proofs.Common.{◌≡◌, ◌≤◌, ◌-◌, ℕ, zero, suc, Bool, true, false, List, [], ◌∷◌, ◌++◌, Some, None, arith, refl, sym, ap, ◌∙◌, reverse, max}
-use Rattle.std.proofs.{lemmas.List.reverse-append, lemmas.List.Elements.{All-nil, All-head, All-tail, All-same, All-push, All-weaker, All-contains_itself}}
+use Rattle.std.proofs.Common.{◌≡◌, ◌≤◌, ◌<◌, ◌-◌, ℕ, zero, suc, Bool, true, false, List, [], ◌∷◌, ◌++◌, Some, None, arith, refl, sym, ap, ◌∙◌, reverse, max}
+use Rattle.std.proofs.{lemmas.Bool.false≢true, lemmas.List.reverse-append, lemmas.List.Elements.{All-nil, All-cons, All-head, All-tail, All-same, All-push, All-weaker, All-contains_itself}}
 use Rattle.std.proofs.lemmas.List.Folds.{list_any_none}
-use Rattle.std.specs.{List.{All, Contains, find}, Prelude.{if◌then◌else◌, nat_le, ◌==◌, ◌&&◌, ◌||◌}}
+use Rattle.std.specs.{List.{All, Contains, find, list_any}, Prelude.{if◌then◌else◌, nat_le, ◌==◌, ◌&&◌, ◌||◌}}
 use borrow.Author.Tests.{eqb-true, eqb-false}
 use Rattle.svnpath.specs.Paths.{Component, is_at_or_under, PathValue}
 use Rattle.repo_api.specs.Histories.{Changed, History, IsQuiet, IsQuietSince}
 use Rattle.traces.specs.Traces.{makes, decides, deciding_change, earlier, place_by, is_from, is_copy_by, next_place, trace, trace_below}
 use Rattle.traces.specs.{declared.place.Place.Place, Touching.{is_touched, touches}}
-use Rattle.history.specs.{Logs.{listed, place_at}, Locations.path_in, Gathered.GoesOn}
+use Rattle.history.specs.{Logs.{listed, place_at}, Locations.path_in, Gathered.GoesOn, Unconcerned.{concerns, IsUnconcerned}}
 use Rattle.history.proofs.Steps.{trace_is, listed_by, not_equal, path_past}
 
 reversed : {X : Type 0} (P : X → Type 0) (xs : List X) → All P xs → All P (reverse xs)
@@ -53,9 +53,9 @@ untouched changes c p quiet =
     neither false false d first second = refl
 
 -- the place before is that in the revision before
-place_earlier : (strict : Bool) (changes : List Changed) (p : PathValue) (n : ℕ) → IsQuiet changes p → next_place strict changes (place_at (suc n) p) ≡ Some (place_at n p)
-place_earlier strict changes p n quiet =
-    ap (λ o. if strict && is_copy_by o then None else place_by o (place_at (suc n) p)) (none_decides changes p quiet)
+place_earlier : (strict : Bool) (changes : List Changed) (p : PathValue) (n : ℕ) → deciding_change changes p ≡ None → next_place strict changes (place_at (suc n) p) ≡ Some (place_at n p)
+place_earlier strict changes p n undecided =
+    ap (λ o. if strict && is_copy_by o then None else place_by o (place_at (suc n) p)) undecided
     ∙ uncopied strict
     ∙ ap (λ k. Some (place_at k p)) fewer
   where
@@ -69,10 +69,68 @@ place_earlier strict changes p n quiet =
     fewer : suc n - 1 ≡ n
     fewer = omega arith
 
+trace_undecided : (h : History) (strict : Bool) (p : PathValue) (n : ℕ) → deciding_change (h (suc n)) p ≡ None
+    → trace h strict (place_at (suc n) p) ≡ place_at (suc n) p ∷ trace h strict (place_at n p)
+trace_undecided h strict p n undecided =
+    trace_is h strict (place_at (suc n) p) ∙ ap (λ o. place_at (suc n) p ∷ trace_below h strict (suc n) o) (place_earlier strict (h (suc n)) p n undecided)
+
 pub trace_earlier : (h : History) (strict : Bool) (p : PathValue) (n : ℕ) → IsQuiet (h (suc n)) p
     → trace h strict (place_at (suc n) p) ≡ place_at (suc n) p ∷ trace h strict (place_at n p)
-trace_earlier h strict p n quiet =
-    trace_is h strict (place_at (suc n) p) ∙ ap (λ o. place_at (suc n) p ∷ trace_below h strict (suc n) o) (place_earlier strict (h (suc n)) p n quiet)
+trace_earlier h strict p n quiet = trace_undecided h strict p n (none_decides (h (suc n)) p quiet)
+
+-- one revision that does not concern the path
+pub listed_unconcerned : (h : History) (strict : Bool) (low : ℕ) (p : PathValue) (m : ℕ) → 0 < m → IsUnconcerned (h m) p
+    → listed h low (trace h strict (place_at m p)) ≡ listed h low (trace h strict (place_at (m - 1) p))
+listed_unconcerned h strict low p zero some is = absurd (omega (arith, some))
+listed_unconcerned h strict low p (suc n) some is =
+    ap (listed h low) (trace_undecided h strict p n is.undecided)
+    ∙ listed_by h low (place_at (suc n) p) (trace h strict (place_at n p)) false (both (nat_le low (suc n)) (is_touched (h (suc n)) p) is.untouched)
+    ∙ ap (λ k. listed h low (trace h strict (place_at k p))) fewer
+  where
+    both : (a b : Bool) → b ≡ false → (a && b) ≡ false
+    both true b is = is
+    both false b is = refl
+
+    fewer : n ≡ suc n - 1
+    fewer = omega arith
+
+-- a revision none of whose changes concerns the path
+each_fails : {X : Type 0} (test : X → Bool) (xs : List X) → list_any test xs ≡ false → All (λ x. test x ≡ false) xs
+each_fails test [] none = All-nil (λ x. test x ≡ false)
+each_fails test (x ∷ xs) none = All-cons (λ y. test y ≡ false) x xs (first (test x) (list_any test xs) none) (each_fails test xs (second (test x) (list_any test xs) none))
+  where
+    first : (a b : Bool) → (a || b) ≡ false → a ≡ false
+    first true b is = is
+    first false b is = refl
+
+    second : (a b : Bool) → (a || b) ≡ false → b ≡ false
+    second true b is = absurd (false≢true (sym is))
+    second false b is = is
+
+pub unconcerned : (changes : List Changed) (p : PathValue) → (p ≡ [] → ⊥) → list_any (concerns p) changes ≡ false → IsUnconcerned changes p
+unconcerned changes [] named none = absurd (named refl)
+unconcerned changes (c ∷ p) named none = record {
+  untouched =
+      list_any_none (touches (c ∷ p)) changes
+      (All-weaker (λ e. concerns (c ∷ p) e ≡ false) (λ e. touches (c ∷ p) e ≡ false)
+      (λ e fails. no_touch (is_at_or_under e.0 (c ∷ p)) (is_from e.1.source) (makes e.1.action) (is_at_or_under (c ∷ p) e.0) fails) changes (each_fails (concerns (c ∷ p)) changes none));
+  undecided =
+      none_found (decides (c ∷ p)) (reverse changes)
+      (reversed (λ e. decides (c ∷ p) e ≡ false) changes
+      (All-weaker (λ e. concerns (c ∷ p) e ≡ false) (λ e. decides (c ∷ p) e ≡ false)
+      (λ e fails. no_make (is_at_or_under e.0 (c ∷ p)) (is_from e.1.source) (makes e.1.action) (is_at_or_under (c ∷ p) e.0) fails) changes (each_fails (concerns (c ∷ p)) changes none)));
+}
+  where
+    no_touch : (a s m u : Bool) → (a || ((s || m) && u)) ≡ false → (a || (s && u)) ≡ false
+    no_touch true s m u is = is
+    no_touch false true m u is = is
+    no_touch false false m u is = refl
+
+    no_make : (a s m u : Bool) → (a || ((s || m) && u)) ≡ false → (m && u) ≡ false
+    no_make a s false u is = refl
+    no_make true s true u is = absurd (false≢true (sym is))
+    no_make false true true u is = is
+    no_make false false true u is = is
 
 -- what a log lists of the place
 pub listed_since : (h : History) (strict : Bool) (low : ℕ) (c : Component) (p : PathValue) (k n : ℕ) → k ≤ n → IsQuietSince h (c ∷ p) k n

@@ -5,7 +5,7 @@ use Rattle.svnpath.specs.Paths.{PathValue}
 use Rattle.repo_api.specs.Histories.{History}
 use Rattle.history.specs.{Locations.{location_back, location_on, path_in}}
 use Rattle.traces.specs.Traces.{traced}
-use Rattle.history.specs.{declared.gathering.Line.Line, declared.gathering.Known.Known}
+use Rattle.history.specs.{declared.gathering.Known.Known}
 use Rattle.traces.specs.declared.place.Place.{Place}
 
 -- the path in a revision of a trace that goes on from a place, or not
@@ -15,10 +15,6 @@ path_from h at n = path_in n (traced h false at)
 -- up to this revision a trace goes on from the one place as from the other
 abbrev pub GoesOn : History → Option Place → ℕ → Option Place → Type 0
 GoesOn h at limit next = (n : ℕ) → n ≤ limit → path_from h next n ≡ path_from h at n
-
--- a trace was gone along as far as to a place, and has this path in a revision
-abbrev pub IsLine : History → ℕ → Line → Type 0
-IsLine h low line = line.back ≡ path_from h line.at low
 
 -- what a map has for a revision
 abbrev pub path_known : List (ℕ × Option PathValue) → ℕ → Option (Option PathValue)

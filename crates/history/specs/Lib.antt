@@ -1,7 +1,9 @@
 pub mod Logs
 pub mod Locations
 pub mod Gathered
+pub mod Meeting
 pub mod Lines
+pub mod Unconcerned
 pub mod Dates
 pub mod Walks
 pub mod Laws

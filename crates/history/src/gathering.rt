@@ -1,23 +1,16 @@
 //! Where a place was or went in revisions that are asked for together: each trace is gone along once.
-ghost use Rattle.std.specs.{Prelude.{◌≡◌, ◌≤◌, ℕ, true, Option, Some, IfOk, OnOk}, Option.ForSome};
+ghost use Rattle.std.specs.{Prelude.{◌≡◌, ◌≤◌, ℕ, Option, Some, IfOk, OnOk}, Option.ForSome};
 ghost use Rattle.repo_api.specs.Histories.{History, history_of};
 ghost use Rattle.svnpath.specs.Paths.{PathValue};
-ghost use Rattle.history.specs.{Gathered.{AreKnown, GoesOn, IsLine, IsNoted, path_from, path_known}, Locations.{location_back, location_on}};
+ghost use Rattle.history.specs.{Gathered.{AreKnown, GoesOn, IsNoted, path_from, path_known}, Locations.{location_back, location_on}};
 
-use crate::lines::is_same_place;
-use crate::locating::{location_back, only_same, place_down};
+use crate::locating::place_down;
+use crate::meeting::Meeting;
 use repo_api::Repository;
 use std::alloc::{AllocError, Global};
 use std::collections::BTreeMap;
 use svnpath::Path;
 use traces::Place;
-
-/// A trace that was gone along as far as to a place, if it goes on, and its path in the revision to which it was traced.
-#[derive(Drop)]
-pub struct Line {
-    pub(crate) at: Option<Place>,
-    pub(crate) back: Option<Path>,
-}
 
 /// The paths of a place in revisions, as far as they are known: at and below the place, and above it.
 #[derive(Drop)]
@@ -59,7 +52,7 @@ fn further_down<R: Repository>(
 }
 
 /// Gives the path in the revision of a trace that goes on from a place at or below it, or not.
-fn path_there(at: &Option<Place>, revision: u64) -> Result<Option<Path>, AllocError>
+pub(crate) fn path_there(at: &Option<Place>, revision: u64) -> Result<Option<Path>, AllocError>
     requires { ForSome at.now (λ place. place.revision ≤ revision) }
     ensures { (h : History) → IfOk result (λ path. path ≡ path_from h at.now revision) }
 {
@@ -107,7 +100,7 @@ fn paths_back<R: Repository>(
 }
 
 /// Notes the path that was found in a revision.
-fn note(
+pub(crate) fn note(
     found: &mut BTreeMap<u64, Option<Path>>,
     revision: u64,
     path: Option<Path>,
@@ -118,44 +111,8 @@ fn note(
     Ok(())
 }
 
-/// Says whether a trace goes on from this place.
-fn is_there(at: &Option<Place>, place: &Place) -> bool
-    ensures { result ≡ true → at.now ≡ Some place.now }
-{
-    match at {
-        None => false,
-        Some(at) => is_same_place(at, place),
-    }
-}
-
-/// Goes on along a line down to a later place, or else begins a line there. It is traced to the revision `low`.
-fn line_at<R: Repository>(
-    alloc: Global,
-    repository: &R,
-    line: Line,
-    later: Place,
-    low: u64,
-) -> Result<Line, AllocError>
-    requires low { low ≤ later.revision }
-    requires line { IsLine (history_of (R.content repository.now)) low line }
-    ensures line { IfOk result (IsLine (history_of (R.content repository.now)) low) }
-    ensures back { IfOk result (λ new. new.back
-        ≡ location_back (history_of (R.content repository.now)) later low) }
-{
-    let Line { at, back } = line;
-    let at = further_down(alloc, repository, at, later.revision)?;
-    if is_there(&at, &later) {
-        return Ok(Line { at, back });
-    }
-    let back = location_back(alloc, repository, &later, low)?;
-    Ok(Line {
-        at: Some(later),
-        back,
-    })
-}
-
-/// Finds the paths of the place in those of the revisions that are above it, as if something were there in each. What one
-/// trace goes through is traced once where the greatest stand last.
+/// Finds the paths of the place in those of the revisions that are above it, as if something were there in each. What
+/// several traces go through is traced once where the greatest stand last.
 fn paths_on<R: Repository>(
     alloc: Global,
     repository: &R,
@@ -166,26 +123,17 @@ fn paths_on<R: Repository>(
         IfOk result (λ found. (n : ℕ) (o : Option PathValue) → path_known found.entries n ≡ Some o
         → o ≡ location_on h place.now n) }
 {
-    let mut found = BTreeMap::new(alloc);
-    let mut line = Line {
-        at: None,
-        back: None,
-    };
+    let mut meeting = Meeting::none(alloc);
     let mut left = revisions.len();
     while left > 0 {
         left -= 1;
         let revision = revisions[left];
         if revision > place.revision {
-            let later = Place {
-                path: place.path.clone()?,
-                revision,
-            };
-            line = line_at(alloc, repository, line, later, place.revision)?;
-            let path = only_same(place.path.clone()?, &line.back);
-            note(&mut found, revision, path)?;
+            meeting.begin(alloc, repository, place, revision)?;
         }
     }
-    Ok(found)
+    meeting.go_down(alloc, repository, place, place.revision)?;
+    meeting.paths()
 }
 
 /// Finds the paths of a place in these revisions.

@@ -11,6 +11,7 @@ mod listed;
 mod locating;
 mod log;
 mod log_ask;
+mod meeting;
 mod walk;
 mod walks;
 

@@ -101,7 +101,7 @@ fn known_on<R: Repository>(
 }
 
 /// Copies a path, if there is one.
-fn copy_of(path: &Option<Path>) -> Result<Option<Path>, AllocError>
+pub(crate) fn copy_of(path: &Option<Path>) -> Result<Option<Path>, AllocError>
     ensures { IfOk result (λ copy. copy ≡ path.now) }
 {
     match path {
@@ -204,7 +204,7 @@ pub(crate) fn place_down<R: Repository>(
 }
 
 /// Gives the place in the revision that it has settled in, or in this one where that is greater.
-fn settled_above<R: Repository>(repository: &R, at: Place, revision: u64) -> Place
+pub(crate) fn settled_above<R: Repository>(repository: &R, at: Place, revision: u64) -> Place
     requires { revision ≤ at.revision }
     ensures within { result.revision ≤ at.revision }
     ensures above { revision ≤ result.revision }

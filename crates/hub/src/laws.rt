@@ -1,5 +1,5 @@
 //! What holds of every run of a hub. The functions do nothing: their contracts are the laws.
-ghost use Rattle.std.specs.Prelude.{◌<◌, ◌≤◌, ◌+◌, ◌≡◌, ◌++◌, [], ℕ, Ok, Option, Some, true, false, List, length};
+ghost use Rattle.std.specs.Prelude.{◌<◌, ◌≤◌, ◌+◌, ◌≡◌, ◌++◌, [], ℕ, Ok, Option, Some, None, true, false, List, length};
 ghost use Rattle.repo_api.specs.{Accepted.Accepted, Accepted.Accepted.{ChangesProperty, Commits, Releases}, LockRuns.HaveOwnTokens, Locking.HandedTokens};
 ghost use Rattle.repo_api.specs.{Marks.AreMarked, Opening.new_repository, Soundness.{AreSound, AreTrees}, States.{IsBeginning, RepoState, trees_in, TxnState}};
 ghost use Rattle.repo_api.specs.{declared.ask.CommitAsk.CommitAsk, declared.property_ask.PropertyAsk.PropertyAsk};
@@ -10,7 +10,8 @@ ghost use Rattle.items.specs.Values.{ItemValue};
 ghost use Rattle.wire_replies.specs.declared.reply.Reply.{Reply};
 ghost use Rattle.access.specs.Points.{content_of, last_count, Point};
 ghost use Rattle.machine.specs.{Hearing.{Input, Yields}, Hearing.Input.Whole, Machine.MachineEdit, Settings.Settings, Stages.SessionState};
-ghost use Rattle.machine.specs.{declared.env.Env.Env, declared.phase.Client.Client, declared.phase.Phase.TheVariants.{Serving, Editing}};
+ghost use Rattle.machine.specs.{declared.env.Env.Env, declared.login.OpenLogin.OpenLogin, declared.phase.Client.Client};
+ghost use Rattle.machine.specs.declared.phase.Phase.TheVariants.{Editing, LoggingIn, Serving};
 ghost use Rattle.hub_runs.specs.{Asked.IsAsked, Done.{GoesOnBy, HasDone, HaveDone}, Laws.{AllKeepSides, IsUnbroken, KeepsConstants, KeepsOtherProperties}};
 ghost use Rattle.hub_runs.specs.{Laws.{KeepsProperties, MakesNewTokens, new_hub, RespectLocks, TellsFailure}, Runs.{Event, HubStep, with_rest}};
 ghost use Rattle.hub_runs.specs.State.{HasTrees, hub_at, HubState, session_of};
@@ -54,7 +55,8 @@ pub fn changes_are_asked_for()
 /// Shows that what is not the session's own is not asked for: a commit of another transaction than that of its edit, at
 /// another command than the edit's end, by another user, or with other tokens than were handed in; a release of other
 /// locks; and a change of a property by another command than a `change-rev-prop` or `change-rev-prop2` that names it
-/// so, with the value before that it is to have.
+/// so, with the value before that it is to have, or where clients may change none; and, where there are users, a change by
+/// what a client sends before its login.
 pub fn nothing_else_is_asked_for()
     ensures commit { (s : Settings) (env : Env) (edit : MachineEdit) (t : ItemValue) (ask : CommitAsk) (txn : TxnState)
         → IsAsked s env (Editing edit) (Whole t) (Commits ask txn)
@@ -65,9 +67,11 @@ pub fn nothing_else_is_asked_for()
         → (user ≡ edit.client.user) × (tokens ≡ edit.asked.tokens) }
     ensures property { (s : Settings) (env : Env) (client : Client) (t : ItemValue) (ask : PropertyAsk)
         → IsAsked s env (Serving client) (Whole t) (ChangesProperty ask)
-        → main_command t ≡ Ok (ChangeRevProp ask) }
+        → (s.revprops ≡ true) × (main_command t ≡ Ok (ChangeRevProp ask)) }
     ensures within_edit { (s : Settings) (env : Env) (edit : MachineEdit) (t : ItemValue) (ask : PropertyAsk)
         → IsAsked s env (Editing edit) (Whole t) (ChangesProperty ask) → ⊥ }
+    ensures login { (s : Settings) (env : Env) (login : OpenLogin) (t : ItemValue) (e : Accepted)
+        → IsAsked s env (LoggingIn login) (Whole t) e → s.users ≡ None }
 {}
 
 /// Shows that, whatever happens, and whatever calls come, the repository has gone on by the changes that were asked

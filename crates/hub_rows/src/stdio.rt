@@ -87,6 +87,33 @@ impl Read for Dripping {
     }
 }
 
+/// Takes a byte at each second write, as each first one is interrupted.
+#[derive(Drop)]
+struct Trickling {
+    bytes: Vec<u8>,
+    is_ready: bool,
+}
+
+impl Write for Trickling {
+    fn write(&mut self, buf: &[u8]) -> io::Result<usize> {
+        self.is_ready = !self.is_ready;
+        if !self.is_ready {
+            return Err(io::Error::from(ErrorKind::Interrupted));
+        }
+        let Some(first) = buf.first() else {
+            return Ok(0);
+        };
+        if self.bytes.push(*first).is_err() {
+            return Err(io::Error::from(ErrorKind::OutOfMemory));
+        }
+        Ok(1)
+    }
+
+    fn flush(&mut self) -> io::Result<()> {
+        Ok(())
+    }
+}
+
 /// Takes the greeting, and fails then.
 #[derive(Drop)]
 struct Closing {
@@ -185,7 +212,10 @@ static ROWS: [Row; 5] = [
 /// Says whether a client is served as its row says.
 fn is_served<A: SoleAccess + Drop>(alloc: Global, hub: Hub<A>, row: &Row) -> bool {
     let mut hub = hub;
-    let mut output = Vec::new(alloc);
+    let mut output = Trickling {
+        bytes: Vec::new(alloc),
+        is_ready: true,
+    };
     let mut input = drip(row.sent, row.fails);
     let ending = ending_of(run_stdio(&mut hub, &mut input, &mut output, &mut Still));
     let wanted = if row.fails {
@@ -193,7 +223,7 @@ fn is_served<A: SoleAccess + Drop>(alloc: Global, hub: Hub<A>, row: &Row) -> boo
     } else {
         Ending::Well
     };
-    ending == wanted && are(output.as_slice(), &row.written)
+    ending == wanted && are(output.bytes.as_slice(), &row.written)
 }
 
 /// Says whether each client is served as its row says.

@@ -1,16 +1,17 @@
 -- What an input does to the repository: what its session asks for by it.
 use Rattle.std.proofs.Common.{◌≡◌, ◌⊎◌, inl, inr, ℕ, zero, suc, ◌&&◌, ◌||◌, not, List, [], ◌∷◌, ◌++◌, Contains, Bool, true, false, Option, Some, None, refl, ap}
 use Rattle.std.proofs.{Common.{subst, sym, ◌∙◌, length, append_assoc, arith}, lemmas.Bool.true≢false}
-use Rattle.std.specs.Prelude.{Result, Ok, Err, if◌then◌else◌}
+use Rattle.std.specs.Prelude.{Result, Ok, Err, if◌then◌else◌, codes}
 use Rattle.svnpath.specs.{Paths.PathValue, Texts.joined, Urls.{path_of_text, root_of_text}, declared.fault.PathFault.PathFault}
 use Rattle.dates.specs.Dates.{IsDateText}
+use Rattle.cram.specs.Login.{Login}
 use Rattle.items.specs.Values.{ItemValue}
 use Rattle.refusals.specs.declared.Refusal.{Refusal}
 use Rattle.access.specs.Changing.{wants_release}
 use Rattle.repo_api.specs.{Accepted.{Accepted, AreAccepted, changed_all, IsAccepted}, Accepted.Accepted.{ChangesProperty, Commits, Locks, Releases, Unlocks}}
 use Rattle.repo_api.specs.{Commits.{commit_refusal, committed}, Locking.{lock_refusal, releases, unlock_refusal}, RevisionProperties.property_refusal}
 use Rattle.repo_api.specs.{States.{RepoState, TxnState}, declared.ask.CommitAsk.CommitAsk, declared.property_ask.PropertyAsk.PropertyAsk}
-use Rattle.wire_forms.specs.{declared.fault.CommandFault.CommandFault, declared.fault.CommandFault.TheVariants.{UnknownName, BadParameters, NoMemory}}
+use Rattle.wire_forms.specs.{Forms.is_name, declared.fault.CommandFault.CommandFault, declared.fault.CommandFault.TheVariants.{UnknownName, BadParameters, NoMemory}}
 use Rattle.commands.specs.{Commands.main_command, Logins.{client_greeting, auth_response, challenge_answer}, declared.command.MainCommand.MainCommand}
 use Rattle.commands.specs.declared.command.MainCommand.TheVariants.{Read, Drive, Commit, AbortEdit, Lock as LockPath, Unlock as UnlockPath, ChangeRevProp}
 use Rattle.commands.specs.{declared.command.MainCommand.TheVariants.Reparent, declared.command.LockCommand.LockCommand}
@@ -243,7 +244,7 @@ halts_at P may env c client e x told one accepted is = record {
 
 locks : (may : Bool) (env : Env) (c : RepoState) (client : Client) (command : LockCommand) (path : PathValue) (date : List ℕ) → joined client.path command.path ≡ Ok path
     → IsDateText env.moment date → (let ask = lock_ask env client command path date in
-    lock_refusal c ask ≡ None → (v : Verdict) → IsOfChange (Locks ask) v → Does (IsAskedBy env client (LockPath command)) may false env c (lock_answer env client ask v))
+    lock_refusal c ask ≡ None → (v : Verdict) → IsOfChange (Locks ask) v → Does (IsAskedBy may env client (LockPath command)) may false env c (lock_answer env client ask v))
 locks may env c client command path date named dated accepted Written of = record {
   own = ((command, refl, path, named, date, dated, refl), tt);
   accepted = (accepted, tt);
@@ -254,26 +255,26 @@ locks may env c client command path date named dated accepted Written of = recor
   halt = tt;
 }
 locks may env c client command path date named dated accepted NotWritten of =
-    fails_at (IsAskedBy env client (LockPath command)) may env c client (Locks (lock_ask env client command path date)) []
+    fails_at (IsAskedBy may env client (LockPath command)) may env c client (Locks (lock_ask env client command path date)) []
 locks may env c client command path date named dated accepted (Unknown x) of =
-    halts_at (IsAskedBy env client (LockPath command)) may env c client (Locks (lock_ask env client command path date)) x [] (command, refl, path, named, date, dated, refl) accepted of
+    halts_at (IsAskedBy may env client (LockPath command)) may env c client (Locks (lock_ask env client command path date)) x [] (command, refl, path, named, date, dated, refl) accepted of
 
 does_locking : (may halted : Bool) (env : Env) (c : RepoState) (client : Client) (command : LockCommand) (path : Result PathValue PathFault) (a : Answer)
-    → joined client.path command.path ≡ path → LockingStep env client command path halted c a → Does (IsAskedBy env client (LockPath command)) may halted env c a
+    → joined client.path command.path ≡ path → LockingStep env client command path halted c a → Does (IsAskedBy may env client (LockPath command)) may halted env c a
 does_locking may halted env c client command (Ok path) a named (date, dated, step) =
     let ask = lock_ask env client command path date in
-    does_change (IsAskedBy env client (LockPath command)) may halted env c client (lock_refusal c ask) (lock_refusal c ask) (Locks ask) (lock_answer env client ask) a refl
+    does_change (IsAskedBy may env client (LockPath command)) may halted env c client (lock_refusal c ask) (lock_refusal c ask) (Locks ask) (lock_answer env client ask) a refl
     (locks may env c client command path date named dated) step
 does_locking may halted env c client command (Err fault) a named is = quiet a _ is (refl, refl, refl)
 
 does_lock : (long may halted : Bool) (env : Env) (c : RepoState) (client : Client) (command : LockCommand) (path : Result PathValue PathFault) (a : Answer)
-    → joined client.path command.path ≡ path → LockStep long env client command path halted c a → Does (IsAskedBy env client (LockPath command)) may halted env c a
+    → joined client.path command.path ≡ path → LockStep long env client command path halted c a → Does (IsAskedBy may env client (LockPath command)) may halted env c a
 does_lock false may halted env c client command path a named step = does_locking may halted env c client command path a named step
 does_lock true may halted env c client command path a named is = quiet a _ is (refl, refl, refl)
 
 unlocks : (may : Bool) (env : Env) (c : RepoState) (client : Client) (command : UnlockCommand) (path : PathValue) → joined client.path command.path ≡ Ok path
     → (let ask = unlock_ask client command path in
-    unlock_refusal c ask ≡ None → (v : Verdict) → IsOfChange (Unlocks ask) v → Does (IsAskedBy env client (UnlockPath command)) may false env c (change_answer env client (Unlocks ask) (Success ∷ []) v))
+    unlock_refusal c ask ≡ None → (v : Verdict) → IsOfChange (Unlocks ask) v → Does (IsAskedBy may env client (UnlockPath command)) may false env c (change_answer env client (Unlocks ask) (Success ∷ []) v))
 unlocks may env c client command path named accepted Written of = record {
   own = ((command, refl, path, named, refl), tt);
   accepted = (accepted, tt);
@@ -284,23 +285,23 @@ unlocks may env c client command path named accepted Written of = record {
   halt = tt;
 }
 unlocks may env c client command path named accepted NotWritten of =
-    fails_at (IsAskedBy env client (UnlockPath command)) may env c client (Unlocks (unlock_ask client command path)) (Success ∷ [])
+    fails_at (IsAskedBy may env client (UnlockPath command)) may env c client (Unlocks (unlock_ask client command path)) (Success ∷ [])
 unlocks may env c client command path named accepted (Unknown x) of =
-    halts_at (IsAskedBy env client (UnlockPath command)) may env c client (Unlocks (unlock_ask client command path)) x (Success ∷ []) (command, refl, path, named, refl) accepted of
+    halts_at (IsAskedBy may env client (UnlockPath command)) may env c client (Unlocks (unlock_ask client command path)) x (Success ∷ []) (command, refl, path, named, refl) accepted of
 
 does_unlock : (may halted : Bool) (env : Env) (c : RepoState) (client : Client) (command : UnlockCommand) (path : Result PathValue PathFault) (a : Answer)
-    → joined client.path command.path ≡ path → UnlockStep env client command path halted c a → Does (IsAskedBy env client (UnlockPath command)) may halted
+    → joined client.path command.path ≡ path → UnlockStep env client command path halted c a → Does (IsAskedBy may env client (UnlockPath command)) may halted
     env c a
 does_unlock may halted env c client command (Ok path) a named step =
     let ask = unlock_ask client command path in
-    does_change (IsAskedBy env client (UnlockPath command)) may halted env c client (unlock_refusal c ask) (unlock_refusal c ask) (Unlocks ask)
+    does_change (IsAskedBy may env client (UnlockPath command)) may halted env c client (unlock_refusal c ask) (unlock_refusal c ask) (Unlocks ask)
     (change_answer env client (Unlocks ask) (Success ∷ [])) a refl (unlocks may env c client command path named) step
 does_unlock may halted env c client command (Err fault) a named is = quiet a _ is (refl, refl, refl)
 
 revises : (env : Env) (c : RepoState) (client : Client) (ask : PropertyAsk) → property_refusal c ask ≡ None
-    → (v : Verdict) → IsOfChange (ChangesProperty ask) v → Does (IsAskedBy env client (ChangeRevProp ask)) true false env c (change_answer env client (ChangesProperty ask) (Success ∷ []) v)
+    → (v : Verdict) → IsOfChange (ChangesProperty ask) v → Does (IsAskedBy true env client (ChangeRevProp ask)) true false env c (change_answer env client (ChangesProperty ask) (Success ∷ []) v)
 revises env c client ask accepted Written of = record {
-  own = (refl, tt);
+  own = ((refl, refl), tt);
   accepted = (accepted, tt);
   told = (refl, ([], refl));
   words = refl;
@@ -309,26 +310,26 @@ revises env c client ask accepted Written of = record {
   halt = tt;
 }
 revises env c client ask accepted NotWritten of =
-    fails_at (IsAskedBy env client (ChangeRevProp ask)) true env c client (ChangesProperty ask) (Success ∷ [])
+    fails_at (IsAskedBy true env client (ChangeRevProp ask)) true env c client (ChangesProperty ask) (Success ∷ [])
 revises env c client ask accepted (Unknown x) of =
-    halts_at (IsAskedBy env client (ChangeRevProp ask)) true env c client (ChangesProperty ask) x (Success ∷ []) refl accepted of
+    halts_at (IsAskedBy true env client (ChangeRevProp ask)) true env c client (ChangesProperty ask) x (Success ∷ []) (refl, refl) accepted of
 
 does_dating : (refused halted : Bool) (env : Env) (c : RepoState) (client : Client) (ask : PropertyAsk) (a : Answer)
-    → DatingStep refused env client ask halted c a → Does (IsAskedBy env client (ChangeRevProp ask)) true halted env c a
+    → DatingStep refused env client ask halted c a → Does (IsAskedBy true env client (ChangeRevProp ask)) true halted env c a
 does_dating true halted env c client ask a is = quiet a _ is (refl, refl, refl)
 does_dating false halted env c client ask a step =
-    does_change (IsAskedBy env client (ChangeRevProp ask)) true halted env c client (property_refusal c ask) (property_refusal c ask)
+    does_change (IsAskedBy true env client (ChangeRevProp ask)) true halted env c client (property_refusal c ask) (property_refusal c ask)
     (ChangesProperty ask) (change_answer env client (ChangesProperty ask) (Success ∷ [])) a refl (revises env c client ask) step
 
 does_property : (may halted : Bool) (env : Env) (c : RepoState) (client : Client) (ask : PropertyAsk) (a : Answer)
-    → PropertyStep may env client ask halted c a → Does (IsAskedBy env client (ChangeRevProp ask)) may halted env c a
+    → PropertyStep may env client ask halted c a → Does (IsAskedBy may env client (ChangeRevProp ask)) may halted env c a
 does_property false halted env c client ask a is = quiet a _ is (refl, refl, refl)
 does_property true halted env c client ask a step = does_dating (is_refused_date client.is_of_today ask) halted env c client ask a step
 
 -- ---- commands
 
 abbrev ByCommand : Bool → Settings → Env → RepoState → Client → MainCommand → Answer → Type 0
-ByCommand halted s env c client command a = Does (IsAskedBy env client command) s.revprops halted env c a
+ByCommand halted s env c client command a = Does (IsAskedBy s.revprops env client command) s.revprops halted env c a
 
 own : (halted : Bool) (s : Settings) (env : Env) (c : RepoState) (client : Client) (command : MainCommand) (a : Answer)
     → OwnStep s env client command halted c a → ByCommand halted s env c client command a
@@ -343,16 +344,19 @@ own halted s env c client (ChangeRevProp ask) a step = does_property s.revprops 
 own halted s env c client (Reparent url) a is = quiet a _ is (quiet_reparented env client (path_of_text url s.name))
 
 does_known : (waits halted : Bool) (s : Settings) (env : Env) (c : RepoState) (client : Client) (command : MainCommand) (a : Answer)
-    → KnownCommand waits s env client command halted c a → ByCommand halted s env c client command a
+    → KnownCommand waits s env client command halted c a
+    → Does (λ e. (waits ≡ false) × IsAskedBy s.revprops env client command e) s.revprops halted env c a
 does_known true halted s env c client command a is = quiet a _ is (refl, refl, refl)
 does_known false halted s env c client command a step =
-    does_behind (IsAskedBy env client command) s.revprops halted env c (login_request command) (OwnStep s env client command) a (plain_request command)
-    (own halted s env c client command) step
+    does_as (IsAskedBy s.revprops env client command) (λ e. (false ≡ false) × IsAskedBy s.revprops env client command e) a (λ e one. (refl, one))
+    (does_behind (IsAskedBy s.revprops env client command) s.revprops halted env c (login_request command) (OwnStep s env client command) a (plain_request command)
+    (own halted s env c client command) step)
 
 does_main : (halted : Bool) (s : Settings) (env : Env) (c : RepoState) (client : Client) (t : ItemValue) (r : Result MainCommand CommandFault) (a : Answer)
     → main_command t ≡ r → MainStep s env client r halted c a → Does (IsAsked s env (Serving client) (Whole t)) s.revprops halted env c a
 does_main halted s env c client t (Ok command) a named step =
-    does_as (IsAskedBy env client command) (IsAsked s env (Serving client) (Whole t)) a (λ e one. (command, named, one))
+    does_as (λ e. (wants_user s client command ≡ false) × IsAskedBy s.revprops env client command e) (IsAsked s env (Serving client) (Whole t)) a
+    (λ e one. (command, named, one.0, one.1))
     (does_known (wants_user s client command) halted s env c client command a step)
 does_main halted s env c client t (Err UnknownName) a named is = quiet a _ is (refl, refl, refl)
 does_main halted s env c client t (Err BadParameters) a named is = quiet a _ is (refl, refl, refl)
@@ -361,23 +365,57 @@ does_main halted s env c client t (Err NoMemory) a named is = quiet a _ is (refl
 -- ---- logins
 
 does_logged_in : (halted : Bool) (s : Settings) (env : Env) (c : RepoState) (client : Client) (waiting : Option MainCommand) (a : Answer)
-    → LoggedIn s env client waiting halted c a → Does (IsWaiting env client waiting) s.revprops halted env c a
+    → LoggedIn s env client waiting halted c a → Does (IsWaiting s.revprops env client waiting) s.revprops halted env c a
 does_logged_in halted s env c client None a is = quiet a _ is (refl, refl, refl)
 does_logged_in halted s env c client (Some command) a step =
-    does_as (IsAskedBy env client command) (IsWaiting env client (Some command)) a (λ e one. (command, refl, one))
-    (does_behind (IsAskedBy env client command) s.revprops halted env c (Success ∷ []) (OwnStep s env client command) a (λ fails. fails, tt)
+    does_as (IsAskedBy s.revprops env client command) (IsWaiting s.revprops env client (Some command)) a (λ e one. (command, refl, one))
+    (does_behind (IsAskedBy s.revprops env client command) s.revprops halted env c (Success ∷ []) (OwnStep s env client command) a (λ fails. fails, tt)
     (own halted s env c client command) step)
 
+-- what is a login of nobody, and what is not
+abbrev is_nobody : Option Mechanism → Bool
+is_nobody None = false
+is_nobody (Some mechanisms.Anonymous) = true
+is_nobody (Some mechanisms.CramMd5) = false
+
+user_or_none : (b : Bool) → is_nobody (if b then Some mechanisms.CramMd5 else None) ≡ false
+user_or_none true = refl
+user_or_none false = refl
+
+-- where there are users, nobody's login makes no command go on that waits for one
+no_users : (users : Option (List Login)) (command : MainCommand) (name : List ℕ)
+    → chosen (offer users (Some command)) name ≡ Some mechanisms.Anonymous → users ≡ None
+no_users None command name is = refl
+no_users (Some users) command name is =
+    absurd (true≢false (sym (ap is_nobody is) ∙ user_or_none (is_name name (codes "CRAM-MD5"))))
+
+-- what nobody's login makes go on is asked for where there are no users
+of_nobody : (s : Settings) (env : Env) (login : OpenLogin) (name : List ℕ) (e : Accepted)
+    → (chosen (offer s.users login.waiting) name ≡ Some mechanisms.Anonymous) × IsWaiting s.revprops env login.client login.waiting e
+    → (s.users ≡ None) × IsWaiting s.revprops env login.client login.waiting e
+of_nobody s env login name e (chose, waiting) =
+    let (command, waits, asked) = waiting in (
+      no_users s.users command name (subst (λ (w : Option MainCommand). chosen (offer s.users w) name ≡ Some mechanisms.Anonymous) waits chose),
+      waiting,
+    )
+
 does_choice : (halted : Bool) (s : Settings) (env : Env) (c : RepoState) (login : OpenLogin) (mechanism : Option Mechanism) (a : Answer)
-    → ChoiceStep s env login mechanism halted c a → Does (IsWaiting env login.client login.waiting) s.revprops halted env c a
+    → ChoiceStep s env login mechanism halted c a
+    → Does (λ e. (mechanism ≡ Some mechanisms.Anonymous) × IsWaiting s.revprops env login.client login.waiting e) s.revprops halted env c a
 does_choice halted s env c login None a is = quiet a _ is (refl, refl, refl)
-does_choice halted s env c login (Some mechanisms.Anonymous) a step = does_logged_in halted s env c login.client login.waiting a step
+does_choice halted s env c login (Some mechanisms.Anonymous) a step =
+    does_as (IsWaiting s.revprops env login.client login.waiting) (λ e. (Some mechanisms.Anonymous ≡ Some mechanisms.Anonymous) × IsWaiting s.revprops env login.client login.waiting e) a
+    (λ e one. (refl, one)) (does_logged_in halted s env c login.client login.waiting a step)
 does_choice halted s env c login (Some mechanisms.CramMd5) a is = quiet a _ is (refl, refl, refl)
 
-does_login : (halted : Bool) (s : Settings) (env : Env) (c : RepoState) (login : OpenLogin) (r : Result AuthResponse CommandFault) (a : Answer)
-    → LoginStep s env login r halted c a → Does (IsWaiting env login.client login.waiting) s.revprops halted env c a
-does_login halted s env c login (Ok r) a step = does_choice halted s env c login (chosen (offer s.users login.waiting) r.mechanism) a step
-does_login halted s env c login (Err fault) a is = quiet a _ is (refl, refl, refl)
+does_login : (halted : Bool) (s : Settings) (env : Env) (c : RepoState) (login : OpenLogin) (t : ItemValue) (r : Result AuthResponse CommandFault) (a : Answer)
+    → LoginStep s env login r halted c a → Does (IsAsked s env (LoggingIn login) (Whole t)) s.revprops halted env c a
+does_login halted s env c login t (Ok r) a step =
+    does_as (λ e. (chosen (offer s.users login.waiting) r.mechanism ≡ Some mechanisms.Anonymous) × IsWaiting s.revprops env login.client login.waiting e)
+    (IsAsked s env (LoggingIn login) (Whole t)) a
+    (of_nobody s env login r.mechanism)
+    (does_choice halted s env c login (chosen (offer s.users login.waiting) r.mechanism) a step)
+does_login halted s env c login t (Err fault) a is = quiet a _ is (refl, refl, refl)
 
 does_challenge : (halted : Bool) (s : Settings) (env : Env) (c : RepoState) (pending : OpenChallenge) (t : ItemValue) (text : Option (List ℕ)) (a : Answer)
     → challenge_answer t ≡ text → ChallengeStep s env pending text halted c a → Does (IsAsked s env (Challenged pending) (Whole t)) s.revprops halted env c a
@@ -385,7 +423,7 @@ does_challenge halted s env c pending t None a named is = quiet a _ is (refl, re
 does_challenge halted s env c pending t (Some text) a named (None, whose, is) = quiet a _ is (refl, refl, refl)
 does_challenge halted s env c pending t (Some text) a named (Some name, whose, step) =
     let client = with_user pending.login.client name in
-    does_as (IsWaiting env client pending.login.waiting) (IsAsked s env (Challenged pending) (Whole t)) a (λ e one. (text, named, name, whose, one))
+    does_as (IsWaiting s.revprops env client pending.login.waiting) (IsAsked s env (Challenged pending) (Whole t)) a (λ e one. (text, named, name, whose, one))
     (does_logged_in halted s env c client pending.login.waiting a step)
 
 -- ---- a commit
@@ -527,7 +565,7 @@ does_editing halted s env c edit t (Err NoMemory) a named is = quiet a _ is (ref
 pub does : (halted : Bool) (s : Settings) (env : Env) (c : RepoState) (phase : Stage) (input : Input) (a : Answer) → InputStep s env phase input halted c a
     → Does (IsAsked s env phase input) s.revprops halted env c a
 does halted s env c Greeted (Whole t) a is = quiet a _ is (quiet_greeting s env (client_greeting t))
-does halted s env c (LoggingIn login) (Whole t) a step = does_login halted s env c login (auth_response t) a step
+does halted s env c (LoggingIn login) (Whole t) a step = does_login halted s env c login t (auth_response t) a step
 does halted s env c (Challenged pending) (Whole t) a step = does_challenge halted s env c pending t (challenge_answer t) a refl step
 does halted s env c (Serving client) (Whole t) a step = does_main halted s env c client t (main_command t) a refl step
 does halted s env c (Editing edit) (Whole t) a step = does_editing halted s env c edit t (editor_command t) a refl step

@@ -1,5 +1,5 @@
 -- What a session asks of the repository by an input.
-use Rattle.std.specs.Prelude.{◌≡◌, ℕ, List, [], ◌∷◌, Option, Some, None, Ok}
+use Rattle.std.specs.Prelude.{◌≡◌, ℕ, Bool, true, false, List, [], ◌∷◌, Option, Some, None, Ok}
 use Rattle.svnpath.specs.{Paths.PathValue, Texts.joined}
 use Rattle.dates.specs.Dates.{IsDateText}
 use Rattle.repo_api.specs.{Accepted.Accepted, Accepted.Accepted.{ChangesProperty, Commits, Locks, Releases, Unlocks}}
@@ -10,24 +10,26 @@ use Rattle.commands.specs.declared.command.UnlockCommand.{UnlockCommand}
 use Rattle.wire_edits.specs.{Editing.editor_command, declared.editing.EditorCommand.TheVariants.CloseEdit}
 use Rattle.edit_rules.specs.Editor.{finished}
 use Rattle.machine.specs.{Commands.{lock_ask, unlock_ask}, Hearing.Input, Hearing.Input.{Broken, Whole}}
-use Rattle.machine.specs.{Logins.{logins_or_none, with_user}, Machine.{commit_ask, MachineEdit}}
+use Rattle.machine.specs.{Logins.{logins_or_none, wants_user, with_user}, Machine.{commit_ask, MachineEdit}}
 use Rattle.machine.specs.{Settings.Settings, Stages.{SessionState, Stage}, declared.env.Env.Env, declared.phase.Client.Client}
 use Rattle.machine.specs.declared.phase.Phase.TheVariants.{Greeted, LoggingIn, Challenged, Serving, Editing, Skipping, Reporting, Driven, Ended}
 use Rattle.hub_runs.specs.{State.{HubState, session_of}, Runs.Event, Runs.Event.{Connects, HandsIn, Hears, Leaves, Drops}}
 
--- a client asks for the change by a command, at the moment and with the word that are handed in
-abbrev pub IsAskedBy : Env → Client → MainCommand → Accepted → Type 0
-IsAskedBy env client command (Commits ask t) = ⊥
-IsAskedBy env client command (Locks ask) =
+-- a client asks for the change by a command, at the moment and with the word that are handed in, where
+-- clients may change properties of revisions, or may not
+abbrev pub IsAskedBy : Bool → Env → Client → MainCommand → Accepted → Type 0
+IsAskedBy may env client command (Commits ask t) = ⊥
+IsAskedBy may env client command (Locks ask) =
     (lock : LockCommand) × (command ≡ Lock lock)
     × (path : PathValue) × (joined client.path lock.path ≡ Ok path)
     × (date : List ℕ) × IsDateText env.moment date × (ask ≡ lock_ask env client lock path date)
-IsAskedBy env client command (Unlocks ask) =
+IsAskedBy may env client command (Unlocks ask) =
     (unlock : UnlockCommand) × (command ≡ Unlock unlock)
     × (path : PathValue) × (joined client.path unlock.path ≡ Ok path)
     × (ask ≡ unlock_ask client unlock path)
-IsAskedBy env client command (Releases user tokens) = ⊥
-IsAskedBy env client command (ChangesProperty ask) = command ≡ ChangeRevProp ask
+IsAskedBy may env client command (Releases user tokens) = ⊥
+IsAskedBy may env client command (ChangesProperty ask) =
+    (may ≡ true) × (command ≡ ChangeRevProp ask)
 
 -- the change is the commit of this edit's transaction, with what was asked for as it began, or the
 -- release behind it
@@ -42,20 +44,23 @@ IsOfEdit env edit (Releases user tokens) =
 IsOfEdit env edit (ChangesProperty ask) = ⊥
 
 -- the client asks for it by a command that has waited for a login
-abbrev pub IsWaiting : Env → Client → Option MainCommand → Accepted → Type 0
-IsWaiting env client waiting e =
-    (command : MainCommand) × (waiting ≡ Some command) × IsAskedBy env client command e
+abbrev pub IsWaiting : Bool → Env → Client → Option MainCommand → Accepted → Type 0
+IsWaiting may env client waiting e =
+    (command : MainCommand) × (waiting ≡ Some command) × IsAskedBy may env client command e
 
 -- the change is what a session asks for, where it stands so, by this input: by the command that it
--- reads, by the one that waits for a login, where this is a user's right answer, or by the end of its edit
+-- reads, which waits for no login; by the one that waits for one, where there are no users, or this is a
+-- user's right answer; or by the end of its edit
 abbrev pub IsAsked : Settings → Env → Stage → Input → Accepted → Type 0
 IsAsked s env (Serving client) (Whole t) e =
-    (command : MainCommand) × (main_command t ≡ Ok command) × IsAskedBy env client command e
-IsAsked s env (LoggingIn login) (Whole t) e = IsWaiting env login.client login.waiting e
+    (command : MainCommand) × (main_command t ≡ Ok command)
+    × (wants_user s client command ≡ false) × IsAskedBy s.revprops env client command e
+IsAsked s env (LoggingIn login) (Whole t) e =
+    (s.users ≡ None) × IsWaiting s.revprops env login.client login.waiting e
 IsAsked s env (Challenged pending) (Whole t) e =
     (text : List ℕ) × (challenge_answer t ≡ Some text) × (name : List ℕ)
     × IsAnswerOf pending.challenge (logins_or_none s.users) text (Some name)
-    × IsWaiting env (with_user pending.login.client name) pending.login.waiting e
+    × IsWaiting s.revprops env (with_user pending.login.client name) pending.login.waiting e
 IsAsked s env (Editing edit) (Whole t) e = (editor_command t ≡ Ok CloseEdit) × IsOfEdit env edit e
 IsAsked s env Greeted (Whole t) e = ⊥
 IsAsked s env (Skipping client) (Whole t) e = ⊥

@@ -12,7 +12,8 @@ use svnpath::Path;
 /// How many directories are listed before the client is asked for again.
 const LISTED_BETWEEN: u32 = 64;
 
-/// A repository at a moment, for a client: once it has gone, no more directories are listed, as where memory runs out.
+/// A repository at a moment, for a client: once it has gone, no more directories are listed, as where memory runs out. A
+/// walk through history, which lists one at each step, ends so too.
 pub struct AttendedView<V: Repository, P: Presence> {
     pub(crate) view: V,
     pub(crate) client: Option<P>,
@@ -38,6 +39,14 @@ pub(crate) fn share_of<P: Presence>(client: &Option<P>) -> Result<Option<P>, All
     }
 }
 
+/// Says whether the client, if there is one, has gone.
+pub(crate) fn is_gone<P: Presence>(client: &Option<P>) -> bool {
+    match client {
+        None => false,
+        Some(client) => client.is_gone(),
+    }
+}
+
 impl<V: Repository, P: Presence> AttendedView<V, P> {
     /// Says whether the client has gone, as far as it is asked for: at each 64th directory that is listed.
     fn has_no_client(&self) -> bool {
@@ -47,10 +56,7 @@ impl<V: Repository, P: Presence> AttendedView<V, P> {
             return false;
         }
         self.listed.set(0);
-        match &self.client {
-            None => false,
-            Some(client) => client.is_gone(),
-        }
+        is_gone(&self.client)
     }
 }
 

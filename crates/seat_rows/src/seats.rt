@@ -4,11 +4,10 @@ ghost use Rattle.store_files.specs.Folders.{Folder, IsSame};
 ghost use Rattle.repo_api.specs.Soundness.{AreSound};
 
 use access::SplitAccess;
-use filed_archive::{FiledArchive, ServedRepo, ServedSeat, share};
+use filed_archive::{ServedAccess, ServedChanges, ServedRepo, ServedSeat, share};
 use filed_opening::{FolderRepository, open, opened_trees_are_sound};
 use filed_world::FiledWorld;
-use published::{Naming, NewHistory, Published, Setting, Shown};
-use sharedrepo::{LockedChanges, SeatAccess};
+use published::{Naming, NewHistory};
 use std::alloc::Global;
 use std::process::Abort;
 use std::sync::{Arc, Wait};
@@ -16,14 +15,7 @@ use store_access::{Filed, StoredRepository};
 use store_files::{FuseStore, MemoryStore, Store};
 
 /// A repository that is shared, as one seat reaches it.
-pub(crate) type Access<'r, F, S, J, R> = SeatAccess<
-    F,
-    FiledArchive<F, S>,
-    J,
-    Shown<Published<F, J>>,
-    Setting<Published<F, J>>,
-    &'r R,
->;
+pub(crate) type Access<'r, F, S, J, R> = ServedAccess<'r, F, S, J, R>;
 
 /// A repository whose trees are sound.
 pub(crate) trait SoundTrees: Filed {
@@ -100,7 +92,7 @@ impl<'r, F: Filed, S: Store, J: Naming, R: Wait> Place<'r, F, S, J, R> {
         } = self;
         SplitAccess {
             looks: seat,
-            changes: LockedChanges { repository, rt },
+            changes: ServedChanges::new(repository, rt),
         }
     }
 }

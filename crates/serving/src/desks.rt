@@ -1,6 +1,7 @@
 //! What threads serve sessions at: the seats of a repository in files that they share.
-ghost use Rattle.std.specs.Prelude.{◌≡◌, All, IfOk};
+ghost use Rattle.std.specs.Prelude.{◌≡◌, All, IfOk, map};
 ghost use Rattle.access.specs.Points.{content_of};
+ghost use Rattle.keepers.specs.Standing.{HaveSeenOpening};
 ghost use Rattle.published.specs.Events.{point_of};
 ghost use Rattle.repo_api.specs.Soundness.{AreSound};
 ghost use Rattle.session_pool.specs.Serving.{settings_of};
@@ -11,10 +12,9 @@ use crate::settings::Server;
 use access::SplitAccess;
 use crossbeam_channel::Receiver;
 use entrance::{Client, Halts, Registry};
-use filed_archive::{FiledArchive, ServedRepo, ServedSeat, share};
-use published::{Naming, NewHistory, Published, Setting, Shown};
+use filed_archive::{ServedAccess, ServedChanges, ServedRepo, ServedSeat, share};
+use published::{Naming, NewHistory};
 use session_pool::SessionPool;
-use sharedrepo::{LockedChanges, SeatAccess};
 use std::alloc::Global;
 use std::random::RandomSource;
 use std::sync::{Arc, Wait};
@@ -23,14 +23,7 @@ use store_access::{Filed, StoredRepository};
 use store_files::Store;
 
 /// A seat of a repository as a session reaches it.
-pub type Access<'r, R, F, S, J> = SeatAccess<
-    F,
-    FiledArchive<F, S>,
-    J,
-    Shown<Published<F, J>>,
-    Setting<Published<F, J>>,
-    &'r R,
->;
+pub type Access<'r, R, F, S, J> = ServedAccess<'r, F, S, J, R>;
 
 /// What a thread serves sessions at: a seat of a repository in files, and what hands moments and words in.
 pub struct Desk<'r, R: Clock, F: Filed, S: Store, J: Naming> {
@@ -64,7 +57,7 @@ impl<'r, R: Clock + Wait, F: Filed, S: Store, J: Naming> Desk<'r, R, F, S, J> {
         } = self;
         let access = SplitAccess {
             looks: seat,
-            changes: LockedChanges { repository, rt },
+            changes: ServedChanges::new(repository, rt),
         };
         (access, envs)
     }
@@ -119,8 +112,7 @@ where
     F: Filed,
     S: Store,
     J: Naming,
-    requires { AreSound (content_of (point_of seat)).revisions }
-    ensures { IfOk result (λ d. AreSound (content_of (point_of d.seat)).revisions) }
+    ensures { IfOk result (λ d. d.seat ≡ seat) }
 {
     let repository = Arc::try_clone(&shared.repository)?;
     let Ok(envs) = SystemEnvs::new(rt) else {
@@ -146,8 +138,7 @@ where
     F: Filed,
     S: Store,
     J: Naming,
-    requires { All (λ s. AreSound (content_of (point_of s)).revisions) seats.items }
-    ensures { IfOk result (λ desks. All (λ d. AreSound (content_of (point_of d.seat)).revisions) desks.items) }
+    ensures { IfOk result (λ desks. map (λ d. d.seat) desks.items ≡ seats.items) }
 {
     let mut desks = Vec::new(alloc);
     for seat in seats {
@@ -156,7 +147,8 @@ where
     Ok(desks)
 }
 
-/// Lets so many sessions share a repository at a time, and makes a desk for each.
+/// Lets so many sessions share a repository at a time, and makes a desk for each. Its seat has seen the repository as it
+/// was opened.
 ///
 /// # Errors
 ///
@@ -175,7 +167,9 @@ where
     J: Naming,
     requires book { history.seen.book ≡ J.book }
     requires sound { AreSound (F.content stored.repository).revisions }
-    ensures { IfOk result (λ desks. All (λ d. AreSound (content_of (point_of d.seat)).revisions)
+    ensures opened { IfOk result (λ desks. HaveSeenOpening (F.content stored.repository)
+        (S.failed stored.saves.store) (map (λ d. d.seat) desks.1.items)) }
+    ensures sound { IfOk result (λ desks. All (λ d. AreSound (content_of (point_of d.seat)).revisions)
         desks.1.items) }
 {
     let (repository, seats) = share::<F, S, J>(alloc, stored, sessions as usize, history)?;

@@ -93,9 +93,8 @@ module _ (rules : AccessRules) (others : (p q : Point) → rules.between p q →
       rest = inl refl;
     }
 
-    of_broken : (writes : Option (List ℕ) → Option (List ℕ) → List ℕ → Type 0) (old new : Sight E) → Breaks rules s gives writes old new
-        → OwnOfSession s old.point.own new.point.own
-    of_broken writes old new h = record {
+    of_broken : (old new : Sight E) → Breaks rules s gives old new → OwnOfSession s old.point.own new.point.own
+    of_broken old new h = record {
       pieces = h.converses.pieces;
       mid = h.before.point.own;
       phase = h.phase;
@@ -104,7 +103,7 @@ module _ (rules : AccessRules) (others : (p q : Point) → rules.between p q →
         h.env,
         h.lost.inputs,
         h.lost.left,
-        of_lost s h.env h.before.point h.phase (h.rest ++ h.bytes) new.point (writes h.before.output new.output) h.lost,
+        of_lost s h.env h.before.point h.phase (h.rest ++ h.bytes) new.point (Appends h.before.output new.output) h.lost,
       );
     }
 
@@ -116,10 +115,10 @@ module _ (rules : AccessRules) (others : (p q : Point) → rules.between p q →
         of_conversation (record old { output = h.answers.greeted }) new h.answers.phase h.answers.rest h.answers.converses
     of_session (Err (Read error)) old new h = of_conversation (record old { output = h.greeted }) new h.phase h.rest h.converses
     of_session (Err TooLong) old new h = of_conversation (record old { output = h.greeted }) new h.phase h.rest h.converses
-    of_session (Err (Write error)) old new (inl same) = unmoved old new (ap (λ (x : Sight E). x.point) same)
-    of_session (Err (Write error)) old new (inr (greeted, greets, h)) = of_broken _ (record old { output = greeted }) new h
+    of_session (Err (Write error)) old new (inl (same, part)) = unmoved old new (ap (λ (x : Sight E). x.point) same)
+    of_session (Err (Write error)) old new (inr (greeted, greets, h)) = of_broken (record old { output = greeted }) new h
     of_session (Err NoMemory) old new (inl same) = unmoved old new (ap (λ (x : Sight E). x.point) same)
-    of_session (Err NoMemory) old new (inr (greeted, greets, h)) = of_broken _ (record old { output = greeted }) new h
+    of_session (Err NoMemory) old new (inr (greeted, greets, h)) = of_broken (record old { output = greeted }) new h
 
   module _ {E : Type 0} (gives : E → Env → E → Type 0) where
     of_caller : (result : Result (Unit {0}) TalkFault) (input output unread written : Option (List ℕ)) (old new : Stand E)

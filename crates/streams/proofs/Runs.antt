@@ -2,13 +2,13 @@
 use Rattle.std.proofs.{Common.{◌≡◌, ℕ, ◌<◌, ◌≤◌, true, List, [], ◌∷◌, ◌++◌, length, sym, subst, inl, inr}, KnownBytes.{Consumes-trans, Appends-trans}}
 use Rattle.std.specs.{Prelude.{Option, Result, Ok, Err, IsErrAnd}, Io.KnownBytes.{Consumes, Appends}}
 use Rattle.machine.specs.declared.env.Env.{Env}
-use Rattle.hub.proofs.Sinks.{breaks_as, feeds_as}
-use Rattle.hub.specs.{Calls.{ConnectsAs, FedTo, FeedsAs}, declared.hub.HubFault.HubFault}
+use Rattle.hub.specs.{Calls.{ConnectsAs, FedTo, FeedsAs}, declared.hub.HubFault.HubFault, declared.hub.HubFault.TheVariants.{NoSession, NoMemory, Halted, Full}}
 use Rattle.hub_runs.specs.State.{HubState}
 use Rattle.streams.specs.{declared.fault.ServeFault.ServeFault, declared.fault.ServeFault.TheVariants.{Read, Write, Hub}}
-use Rattle.streams.specs.Stream.{Scene, FeedsUnseen, HearsPieces, is_hearing, Answered, PieceSent, PiecesSent, StreamServed}
+use Rattle.streams.specs.Stream.{Scene, FeedsInPart, HearsPieces, is_hearing, Answered, PieceSent, PiecesSent, StreamServed}
 use Rattle.conversations.specs.Pieces.{Piece, bytes_of, GivesAll}
-use Rattle.conversations.proofs.Growing.{fed_piece, gives_more, bytes_of-more}
+use Rattle.conversations.proofs.{Gathered.{part_of_nothing, part_of_part}, Growing.{fed_piece, gives_more, bytes_of-more}}
+use Rattle.wire_replies.specs.{Replies.print, Sinks.WritesPart}
 use Rattle.streams.proofs.Joining.{draws_more}
 
 -- a piece more is read, fed and answered
@@ -42,11 +42,15 @@ answered {E} gives n old greeted greeting connects unread written unasked new h 
   written = Appends-trans old.output greeted.output new.output greeting h.answers written h.written;
 }
 
--- where it is not known what was written of what was heard
-pub unseen : {T : Type 0} (r : Result T HubFault) (old : HubState) (env : Env) (n : ℕ) (piece : List ℕ) (new : HubState) (writes : List ℕ → Type 0)
-    → FedTo r old env n piece new writes → FeedsUnseen old env n piece new
-unseen (Ok x) old env n piece new writes fed = inl (feeds_as old env n piece new writes (λ _. Unit {0}) (λ _ _. tt) fed)
-unseen (Err fault) old env n piece new writes fed = inr (fault, breaks_as old env n piece new writes (λ _. Unit {0}) (λ _ _. tt) fault fed)
+-- where a write failed, a part was written of what was heard
+pub fed_in_part : {T : Type 0} (r : Result T HubFault) (old : HubState) (env : Env) (n : ℕ) (piece : List ℕ) (new : HubState) (writes writes' : List ℕ → Type 0)
+    → FedTo r old env n piece new writes → ((bytes : List ℕ) → writes bytes → WritesPart writes' bytes) → FeedsInPart old env n piece new writes'
+fed_in_part (Ok x) old env n piece new writes writes' (out, feeds, written) seen = inl (out, feeds, seen out written)
+fed_in_part (Err NoSession) old env n piece new writes writes' (fails, none) seen = inr (NoSession, (fails, part_of_nothing writes' (seen [] none)))
+fed_in_part (Err NoMemory) old env n piece new writes writes' (running, broken) seen =
+    inr (NoMemory, (running, record { breaks = broken.breaks; written = part_of_part writes writes' (print broken.breaks.told) broken.written seen }))
+fed_in_part (Err Halted) old env n piece new writes writes' (fails, none) seen = inr (Halted, (fails, part_of_nothing writes' (seen [] none)))
+fed_in_part (Err Full) old env n piece new writes writes' bad seen = absurd bad
 
 -- ---- what is known of a result
 
@@ -84,8 +88,9 @@ IsWrite (Hub fault) = ⊥
 
 -- a session was connected, and the write of its greeting failed
 pub greeting_unwritten : {E T : Type 0} (r : Result T ServeFault) (gives : E → Env → E → Type 0) (n : ℕ) (old new : Scene E) (greeting : List ℕ)
-    → ConnectsAs old.hub n greeting new.hub → new ≡ record old { hub = new.hub; output = new.output } → IsErrAnd r IsWrite → StreamServed r gives old new
-greeting_unwritten (Ok x) gives n old new greeting connects same bad = absurd bad
-greeting_unwritten (Err (Read error)) gives n old new greeting connects same bad = absurd bad
-greeting_unwritten (Err (Write error)) gives n old new greeting connects same is = (n, inl (greeting, connects, same))
-greeting_unwritten (Err (Hub fault)) gives n old new greeting connects same bad = absurd bad
+    → ConnectsAs old.hub n greeting new.hub → new ≡ record old { hub = new.hub; output = new.output } → WritesPart (Appends old.output new.output) greeting
+    → IsErrAnd r IsWrite → StreamServed r gives old new
+greeting_unwritten (Ok x) gives n old new greeting connects same part bad = absurd bad
+greeting_unwritten (Err (Read error)) gives n old new greeting connects same part bad = absurd bad
+greeting_unwritten (Err (Write error)) gives n old new greeting connects same part is = (n, inl (greeting, connects, same, part))
+greeting_unwritten (Err (Hub fault)) gives n old new greeting connects same part bad = absurd bad

@@ -1,7 +1,7 @@
 -- What it is to serve one session over a stream.
 use Rattle.std.specs.Prelude.{◌≡◌, ◌⊎◌, ℕ, Bool, true, ◌&&◌, not, is_some, List, [], ◌∷◌, ◌++◌, map, Option, Some, Result, Ok, Err}
 use Rattle.std.specs.Io.KnownBytes.{Consumes, Appends, IsAtEnd}
-use Rattle.wire_replies.specs.{declared.reply.Reply.Reply, Replies.print}
+use Rattle.wire_replies.specs.{declared.reply.Reply.Reply, Replies.print, Sinks.WritesPart}
 use Rattle.machine.specs.{Hearing.Yields, Stages.SessionState, declared.env.Env.Env}
 use Rattle.hub.specs.{declared.hub.HubFault.HubFault, Calls.{ConnectsAs, ConnectFails, FeedBreaks, FeedsTo}}
 use Rattle.hub_runs.specs.{Runs.{Event, HubRun, IfOpen, InputsAre, with_rest}, Runs.Event.{HandsIn, Hears}, State.{HubState, session_of}}
@@ -90,11 +90,11 @@ abbrev pub HearsUntil : {E : Type 0} → (E → Env → E → Type 0) → ℕ �
 HearsUntil {E} gives n fault old new =
     (before : Scene E) × HearsPieces gives n old before × Stops gives n fault before new
 
--- a piece was heard, or a part of it, and it is not known what was written then
-abbrev pub FeedsUnseen : HubState → Env → ℕ → List ℕ → HubState → Type 0
-FeedsUnseen old env n piece new =
-    FeedsTo old env n piece new (λ _. Unit {0})
-    ⊎ ((fault : HubFault) × FeedBreaks old env n piece fault new (λ _. Unit {0}))
+-- a piece was heard, or some of its inputs were, and a part of what they draw was written, from the front
+abbrev pub FeedsInPart : HubState → Env → ℕ → List ℕ → HubState → (List ℕ → Type 0) → Type 0
+FeedsInPart old env n piece new writes =
+    FeedsTo old env n piece new (WritesPart writes)
+    ⊎ ((fault : HubFault) × FeedBreaks old env n piece fault new writes)
 
 -- A piece was read for a session that hears what comes, and a write of what it draws failed.
 pub record IsUnwritten {E : Type 0} (gives : E → Env → E → Type 0) (n : ℕ) (old new : Scene E)
@@ -104,7 +104,7 @@ pub record IsUnwritten {E : Type 0} (gives : E → Env → E → Type 0) (n : �
   pub given : gives old.envs env new.envs
   pub bytes : List ℕ
   pub read : Consumes old.input new.input bytes
-  pub fed : FeedsUnseen old.hub env n bytes new.hub
+  pub fed : FeedsInPart old.hub env n bytes new.hub (Appends old.output new.output)
 
 -- pieces were answered, and at the next one a write failed
 abbrev pub HearsUnwritten : {E : Type 0} → (E → Env → E → Type 0) → ℕ → Scene E → Scene E → Type 0
@@ -149,11 +149,13 @@ AnswersUntil {E} gives fault old new =
 abbrev pub HubFails : {E : Type 0} → (E → Env → E → Type 0) → HubFault → Scene E → Scene E → Type 0
 HubFails gives fault old new = IsTurnedAway fault old new ⊎ AnswersUntil gives fault old new
 
--- a write failed: that of the greeting of a session that was connected, and nothing was read; or behind it, at a piece
+-- a write failed: that of the greeting of a session that was connected, of which a part was written, from the front,
+-- and nothing was read; or after it, at a piece
 abbrev pub WriteFails : {E : Type 0} → (E → Env → E → Type 0) → Scene E → Scene E → Type 0
 WriteFails {E} gives old new =
     (n : ℕ) × (((greeting : List ℕ) × ConnectsAs old.hub n greeting new.hub
-    × (new ≡ record old { hub = new.hub; output = new.output }))
+    × (new ≡ record old { hub = new.hub; output = new.output })
+    × WritesPart (Appends old.output new.output) greeting)
     ⊎ ((before : Scene E) × Answered gives n old before × IsUnwritten gives n before new))
 
 -- What is known by how serving ended: well; by a read that failed; by a write that failed; or by a hub's fault.
@@ -164,12 +166,13 @@ MatchServe (Err (Read error)) well unread unwritten failed = unread
 MatchServe (Err (Write error)) well unread unwritten failed = unwritten
 MatchServe (Err (Hub fault)) well unread unwritten failed = failed fault
 
--- A piece was sent to a session of the hub, and what it causes was written, or is not known, where a write failed; or
--- the hub failed at it. No read is made.
+-- A piece was sent to a session of the hub, and what it causes was written, or a part of it, from the front, where a
+-- write failed; or the hub failed at it. No read is made.
 abbrev pub PieceSent : {T : Type 0} → Result T ServeFault → HubState → Env → ℕ → List ℕ → HubState
     → (List ℕ → Type 0) → Type 0
 PieceSent r old env n piece new writes =
-    MatchServe r (FeedsTo old env n piece new writes) ⊥ (FeedsUnseen old env n piece new)
+    MatchServe r (FeedsTo old env n piece new writes) ⊥
+    (FeedsInPart old env n piece new writes)
     (λ fault. FeedBreaks old env n piece fault new writes)
 
 -- A session was sent its input: to the end, or as long as it hears what comes; as far as it was

@@ -10,5 +10,5 @@ returns-then-revision-low g c =
     sym c.loop-place.invariant
     ∙ ap (λ o. listed (history_of (g.R.Repository.content c.args.repository.now)) c.args.low (traced (history_of (g.R.Repository.content c.args.repository.now)) c.args.strict o))
     c.in-Some.is
-    ∙ c.settled_place-at.ensures.listed c.args.strict c.args.low
-    ∙ nothing_listed_below (history_of (g.R.Repository.content c.args.repository.now)) c.args.strict c.args.low c.settled_place-at.result c.if-revision-low.true
+    ∙ c.place_passed_to-at.ensures.listed c.args.strict c.args.low
+    ∙ nothing_listed_below (history_of (g.R.Repository.content c.args.repository.now)) c.args.strict c.args.low c.place_passed_to-at.result c.if-revision-low.true

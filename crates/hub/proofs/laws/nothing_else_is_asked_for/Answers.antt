@@ -12,7 +12,11 @@ pub returns-clause-release : goal.returns-clause-release
 returns-clause-release c = λ s env edit t user tokens asked. asked.1
 
 pub returns-clause-property : goal.returns-clause-property
-returns-clause-property c = λ s env client t ask asked. asked.1 ∙ ap Ok asked.2
+returns-clause-property c = λ s env client t ask asked.
+    let (command, is_read, goes, asks) = asked in (asks.0, is_read ∙ ap Ok asks.1)
 
 pub returns-clause-within_edit : goal.returns-clause-within_edit
 returns-clause-within_edit c = λ s env edit t ask asked. asked.1
+
+pub returns-clause-login : goal.returns-clause-login
+returns-clause-login c = λ s env login t e asked. asked.0

@@ -1,7 +1,7 @@
 use Rattle.std.proofs.Common.{◌∙◌, ◌++◌, rules}
 use Rattle.std.specs.Io.KnownBytes.{Appends}
 use Rattle.wire_replies.specs.Replies.{print}
-use Rattle.conversations.proofs.{Conversing.{on_err, unwritten}, Gathered.all_written}
+use Rattle.conversations.proofs.{Conversing.{on_err, unwritten}, Gathered.{all_finished, part_finished}}
 use Rattle.conversations.proofs.worker.Worker.answer_piece.Goals as goal
 
 pub returns-in-Ok-fed-clause-fed : goal.returns-in-Ok-fed-clause-fed
@@ -11,9 +11,9 @@ returns-in-Ok-fed-clause-fed g c =
     let u = c.finish-finished.new.self in
     let fed = c.in-Ok-fed.ensures.ok in
     let name = c.finish-finished.ensures.same_reference ∙ fed.written.0 in
-    let gathered = (fed.written.1 c.in-Ok.ensures.sound).1 in
     let landed : Appends (contents c.args.output.now) (contents u.output.now) (print fed.told) =
-    all_written (contents c.args.output.now) (contents t.output.now) (contents u.output.now) c.new-buffer.result.items t.buffer.items (print fed.told) c.new-buffer.ensures.items gathered c.in-Ok.ensures.written in
+    all_finished (contents c.args.output.now) (contents t.output.now) (contents u.output.now) c.new-buffer.result.items t.buffer.items t.fault (print fed.told)
+    c.new-buffer.ensures.items fed.written.1 c.in-Ok.ensures.written in
     record {
       inputs = fed.inputs;
       yields = fed.yields;
@@ -32,9 +32,9 @@ returns-in-Ok-clause-fed g c =
     let lost = c.in-Err-fed.ensures.lost c.requires.open in
     let wrote = lost.written.wrote in
     let name = c.finish-finished.ensures.same_reference ∙ wrote.0 in
-    let gathered = (wrote.1 c.in-Ok.ensures.sound).1 in
     let landed : Appends (contents c.args.output.now) (contents u.output.now) lost.written.part =
-    all_written (contents c.args.output.now) (contents t.output.now) (contents u.output.now) c.new-buffer.result.items t.buffer.items lost.written.part c.new-buffer.ensures.items gathered c.in-Ok.ensures.written in
+    all_finished (contents c.args.output.now) (contents t.output.now) (contents u.output.now) c.new-buffer.result.items t.buffer.items t.fault lost.written.part
+    c.new-buffer.ensures.items wrote.1 c.in-Ok.ensures.written in
     record {
       inputs = lost.inputs;
       left = lost.left;
@@ -56,7 +56,16 @@ returns-in-Ok-clause-fed g c =
 
 pub returns-clause-fed : goal.returns-clause-fed
 returns-clause-fed g c =
+    let contents = g.O.Write.contents in
     let old = c.args.session.now in
     let new = c.feed-fed.new.self in
+    let t = c.feed-fed.new.turn.out in
+    let u = c.finish-finished.new.self in
     unwritten c.feed-fed.result g.A.RepoAccess.rules c.args.self.now.options.now c.args.env (g.A.RepoAccess.point c.args.self.now.access) (g.A.RepoAccess.point c.feed-fed.new.access)
-    old.phase new.phase (old.rest ++ c.args.piece.now) new.rest _ c.feed-fed.ensures.ok (on_err _ _ c.feed-fed.result c.requires.open c.feed-fed.ensures.lost)
+    old.phase new.phase (old.rest ++ c.args.piece.now) new.rest _ _ c.feed-fed.ensures.ok (on_err _ _ c.feed-fed.result c.requires.open c.feed-fed.ensures.lost)
+    (λ bytes wrote.
+    let name = c.finish-finished.ensures.same_reference ∙ wrote.0 in
+    let part = part_finished c.finish-finished.result (contents c.args.output.now) (contents t.output.now) (contents u.output.now) c.new-buffer.result.items t.buffer.items t.fault bytes
+    c.new-buffer.ensures.items wrote.1 c.finish-finished.ensures.written in
+    let landed : Appends (contents c.args.output.now) (contents u.output.now) part.part = part.wrote in
+    record { part = part.part; rest = part.rest; whole = part.whole; wrote = search rules })
