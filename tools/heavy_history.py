@@ -83,5 +83,4 @@ def dates(row):
         return
     alice.ask(spelling.change_revision_property(last, "svn:date", spelling.date(2)))
     asks(row, f"{DATES:,} old dates, where the youngest of {last} revisions is the oldest", answered, ask, DATES)
-    for times in (1, 20):
-        goes_within(row, f"{times * DATES:,} of them", ask * times * DATES)
+    goes_within(row, f"{20 * DATES:,} of them", ask * 20 * DATES)

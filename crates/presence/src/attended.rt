@@ -2,24 +2,18 @@
 ghost use Rattle.std.specs.Prelude.{◌≡◌};
 
 use crate::client::Presence;
-use crate::view::{AttendedView, is_gone, share_of};
+use crate::view::{AttendedView, share_of};
 use access::{Committed, RepoAccess, SharedAccess};
 use repo_api::{ChangeFault, CommitAsk, LockAsk, PropertyAsk, Repository, UnlockAsk};
 use std::alloc::AllocError;
 use std::cell::Cell;
 use std::mem::{self, drop};
 
-/// How many looks are taken before the client is asked for again.
-const LOOKS_BETWEEN: u32 = 8;
-
-/// An access to a repository for a client: once it has gone, no more directories are listed, as where memory runs out, and
-/// soon it is not looked at any more.
+/// An access to a repository for a client: once it has gone, no more directories are listed, as where memory runs out.
 #[derive(Drop)]
 pub struct AttendedAccess<A, P> {
     pub access: A,
     client: Option<P>,
-    /// How many looks were taken since the client was asked for.
-    looks: u32,
 }
 
 impl<A: RepoAccess + Drop, P: Presence> AttendedAccess<A, P> {
@@ -30,7 +24,6 @@ impl<A: RepoAccess + Drop, P: Presence> AttendedAccess<A, P> {
         AttendedAccess {
             access,
             client: None,
-            looks: 0,
         }
     }
 
@@ -39,18 +32,6 @@ impl<A: RepoAccess + Drop, P: Presence> AttendedAccess<A, P> {
         ensures { self.new.access ≡ self.old.access }
     {
         drop(mem::replace(&mut self.client, client));
-    }
-
-    /// Says whether the client has gone, as far as it is asked for: at each eighth look.
-    fn has_no_client(&mut self) -> bool
-        ensures { self.new.access ≡ self.old.access }
-    {
-        if self.looks < LOOKS_BETWEEN {
-            self.looks += 1;
-            return false;
-        }
-        self.looks = 0;
-        is_gone(&self.client)
     }
 }
 
@@ -74,9 +55,6 @@ impl<A: RepoAccess + Drop, P: Presence> RepoAccess for AttendedAccess<A, P> {
     ghost counts = { A.counts };
 
     fn look(&mut self) -> Result<AttendedView<A::View, P>, AllocError> {
-        if self.has_no_client() {
-            return Err(AllocError);
-        }
         let view = self.access.look()?;
         let client = share_of(&self.client)?;
         Ok(AttendedView {

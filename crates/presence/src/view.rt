@@ -39,14 +39,6 @@ pub(crate) fn share_of<P: Presence>(client: &Option<P>) -> Result<Option<P>, All
     }
 }
 
-/// Says whether the client, if there is one, has gone.
-pub(crate) fn is_gone<P: Presence>(client: &Option<P>) -> bool {
-    match client {
-        None => false,
-        Some(client) => client.is_gone(),
-    }
-}
-
 impl<V: Repository, P: Presence> AttendedView<V, P> {
     /// Says whether the client has gone, as far as it is asked for: at each 64th directory that is listed.
     fn has_no_client(&self) -> bool {
@@ -56,7 +48,10 @@ impl<V: Repository, P: Presence> AttendedView<V, P> {
             return false;
         }
         self.listed.set(0);
-        is_gone(&self.client)
+        match &self.client {
+            None => false,
+            Some(client) => client.is_gone(),
+        }
     }
 }
 
