@@ -163,6 +163,13 @@ class Had(NamedTuple):
     depth: str = "infinity"
 
 
+class Aim(NamedTuple):
+    """Where a path is led: the path of the repository that it is to stand for, and what is to be there."""
+
+    place: str
+    node: Optional[Node]
+
+
 def depth_below(depth):
     """The depth of a directory in a directory of this depth, where nothing is said of it."""
     return "infinity" if depth == "infinity" else "empty"
@@ -172,13 +179,16 @@ class Report:
     """A report, from the command that begins it to its end. Each method is a command of it, is kept as it is spelled, and
     changes what the client has, or is refused. The first refusal is kept, and answers in the end."""
 
-    def __init__(self, revisions, purpose="update", target="", revision=None, *, anchor="", url=None, recurse=True, depth=None):
+    def __init__(
+        self, revisions, purpose="update", target="", revision=None, *, anchor="", url=None, recurse=True, depth=None, of_today=False
+    ):
         self.revisions = revisions
         self.purpose = purpose
+        self.of_today = of_today
         self.anchor = anchor
         self.refusal = None
         self.first = None
-        # each path that was reported, with the path of the repository that it stands for, in their order
+        # each path that was reported, with the path of the repository that it stands for, and whether it is a link, in their order
         self.places = []
         self.had = {}
         self.sent = [self.beginning(target, revision, url, recurse, depth)]
@@ -269,7 +279,7 @@ class Report:
         may_lack = self.first is None and self.target != ""
         if source not in tree and not may_lack:
             raise Refused(NOT_FOUND)
-        self.put(path, source)
+        self.put(path, source, url is not None)
         for place, node in tree.items():
             if place == source:
                 # a client that checks a directory out, or whose checkout was interrupted, has none of its properties yet
@@ -298,12 +308,12 @@ class Report:
         path = self.path(text)
         if path == "":
             raise Refused(MALFORMED)
-        self.put(path, self.source(path))
+        self.put(path, self.source(path), False)
 
-    def put(self, path, source):
+    def put(self, path, source, is_link):
         """What stood at a path is gone, and it stands for another path of the repository."""
         self.had = {there: had for there, had in self.had.items() if not is_at_or_under(there, path)}
-        self.places.append((path, source))
+        self.places.append((path, source, is_link))
 
     def is_directory(self, path):
         """Whether the client has a directory there."""
@@ -314,16 +324,50 @@ class Report:
         if path == self.target:
             return joined(self.anchor, path)
         parent = parent_of(path)
-        for top, source in reversed(self.places):
+        for top, source, _ in reversed(self.places):
             if is_at_or_under(parent, top):
                 return joined(source, beyond(path, top))
         return joined(self.anchor, path)
 
+    def link(self, path):
+        """The path of the repository to which a link of this very path leads it, if the last that was reported is one."""
+        for top, source, is_link in reversed(self.places):
+            if is_at_or_under(path, top):
+                return source if is_link and top == path and path else None
+        return None
+
     # The end.
+
+    def is_led(self):
+        """Whether a link leads a path of the drive elsewhere than the target is led."""
+        places = ((aim.place, joined(self.goal, beyond(path, self.target))) for path, aim in self.aims.items() if path in self.scope)
+        return self.of_today and any(place != own for place, own in places)
+
+    @cached_property
+    def aims(self):
+        """Where each path at or under the target is led, for a client of today."""
+        tree = self.revisions.trees[self.revision]
+        aims, left = {}, [(self.target, self.goal, True, True)]
+        while left:
+            path, own, counts, is_in_directory = left.pop()
+            link = self.link(path) if counts and self.purpose != "switch" else None
+            place = own if link is None else link
+            had = self.had[path].node if counts and path in self.had else None
+            node = tree.get(place) if is_in_directory else None
+            stays = had is not None and kind_of(had) == kind_of(node)
+            # a link goes where nothing of its kind is
+            aims[path] = Aim(place, node if link is None or stays else None)
+            there = {beyond(other, path) for other in [*self.had, *(top for top, _, _ in self.places)] if is_at_or_under(other, path)}
+            there |= {beyond(other, place) for other in tree if is_at_or_under(other, place)}
+            for name in {rest.split("/")[0] for rest in there if rest}:
+                left.append((joined(path, name), joined(place, name), stays, kind_of(aims[path].node) == "dir"))
+        return aims
 
     @cached_property
     def tree(self):
         """What the client is to have."""
+        if self.of_today:
+            return {path: aim.node for path, aim in self.aims.items() if aim.node is not None}
         tree = self.revisions.trees[self.revision]
         return {
             joined(self.target, beyond(place, self.goal)): node for place, node in tree.items() if is_at_or_under(place, self.goal)
@@ -394,7 +438,7 @@ class Report:
     def is_stale(self, path):
         """Whether the client has a token of an entry that it is to have, and no lock there has that token."""
         token = self.old[path].token if path in self.old else None
-        place = joined(self.goal, beyond(path, self.target))
+        place = self.aims[path].place if self.of_today else joined(self.goal, beyond(path, self.target))
         return token is not None and path in self.new and self.revisions.tokens.get(place) != token
 
     def judge(self, told):

@@ -1,14 +1,16 @@
 -- The two trees of a drive hold together.
-use Rattle.std.proofs.Common.{◌≡◌, arith, ℕ, zero, suc, ◌+◌, Bool, true, false, cond, List, [], ◌∷◌, ◌++◌, length, drop, None, refl, sym, ap, ◌∙◌, subst}
+use Rattle.std.proofs.Common.{◌≡◌, arith, ℕ, zero, suc, ◌+◌, Bool, true, false, cond, ◌&&◌, not, List, [], ◌∷◌, ◌++◌, length, drop, Option, None, refl, sym, ap, ◌∙◌, subst}
 use Rattle.std.proofs.{Common.if◌then◌else◌, lemmas.Bool.false≢true, lemmas.List.{length-append, append_assoc}}
-use Rattle.std.specs.{Prelude.{IsTrue, IsSome, IsSomeAnd, is_some, slice_get}, FinMap.get-empty}
+use Rattle.std.specs.{Prelude.{IsTrue, IsSome, IsSomeAnd, is_some, option_and_then, slice_get}, FinMap.get-empty}
 use Rattle.svnpath.specs.{PathLaws.{rest_append, under_append, under_is}, Paths.{is_at_or_under, path_cmp, PathValue}}
-use Rattle.repo_api.specs.{Soundness.AreTrees, States.{RepoState, Revision, tree_in, tree_of, trees_in}, Trees.{HasDirectory, is_directory}}
+use Rattle.repo_api.specs.{Soundness.AreTrees, States.{RepoState, Revision, tree_in, tree_of, trees_in}, Trees.{HasDirectory, is_directory}, declared.entry.Entry.Entry}
 use Rattle.drive_rules.specs.Scopes.{below, depth_below, DepthLimit, hides_nothing, HoldsTogether}
-use Rattle.drive_rules.proofs.{Entries.below_under, Trees.{tree_holds, scope_holds}}
-use Rattle.drive_reports.specs.{Reported.reported_entries, Targets.{WholeReport, goal_path, target_tree, client_tree, limit_of, old_tree, new_tree}}
+use Rattle.drive_rules.proofs.{Entries.below_under, Joined.and_front, Trees.{tree_holds, scope_holds}}
+use Rattle.small_rules.specs.GivingWay.{gives_way}
+use Rattle.drive_reports.specs.{Aims.{Aim, aim_at, are_of_one_kind}, Reported.{ReportedEntry, reported_entries}, Wholes.{WholeReport, client_tree, goal_path, target_tree}}
+use Rattle.drive_reports.specs.Targets.{client_entries, drive_scope, is_apart, is_stale, is_stale_token, limit_of, new_tree, old_tree, target_entries}
 use Rattle.drive_reports.specs.declared.ask.DriveAsk.{DriveAsk}
-use Rattle.drive_reports.proofs.Holding.{all_hold, longer_below, below_longer}
+use Rattle.drive_reports.proofs.{Aiming.{at_other, gives_or_stays, other_entry, other_from, today_holds}, Holding.{all_hold, longer_below, below_longer}}
 
 none_holds : (top : PathValue) → HoldsTogether top (tree_of (tree_in None))
 none_holds top p q at low some = absurd (false≢true (sym (ap is_some (get-empty path_cmp q)) ∙ some))
@@ -46,13 +48,54 @@ target_holds c ask trees p q at low some = by (is_at_or_under q ask.target) some
         (revisions_hold c trees ask.revision (goal_path ask p) (goal_path ask q) refl lower h)
     by false h = absurd (false≢true h)
 
+-- where a client of the other kind is led, the goal's subtree is to stand
+pub other_target : (c : RepoState) (report : WholeReport) (q : PathValue) → report.ask.is_of_today ≡ false → target_entries c report q ≡ target_tree c report.ask q
+other_target c report q other = ap (λ o. cond (is_at_or_under q report.ask.target) o None) (other_entry c report q other)
+
+-- what is to stand, of either kind of client
+pub entries_hold : (c : RepoState) (report : WholeReport) → AreTrees c.revisions → HoldsTogether report.ask.target (target_entries c report)
+entries_hold c report trees = by report.ask.is_of_today refl
+  where
+    by : (b : Bool) → report.ask.is_of_today ≡ b → HoldsTogether report.ask.target (target_entries c report)
+    by true today = today_holds c report today
+    by false other = subst (HoldsTogether report.ask.target) (λ i q. sym (other_target c report q other) i) (target_holds c report.ask trees)
+
 pub both_hold : (c : RepoState) (report : WholeReport) → AreTrees c.revisions
     → HoldsTogether report.ask.target (old_tree c report) × HoldsTogether report.ask.target (new_tree c report)
 both_hold c report trees = (
-  scope_holds hides_nothing depth_below limit (reported_entries (client_tree c report)) (target_tree c report.ask) (reported_entries (client_tree c report)) report.ask.target
+  scope_holds hides_nothing depth_below limit (reported_entries (client_tree c report)) (target_entries c report) (reported_entries (client_tree c report)) report.ask.target
       (all_hold (trees_in c.revisions) report.ask.target report.grafts (revisions_hold c trees)),
-  scope_holds hides_nothing depth_below limit (reported_entries (client_tree c report)) (target_tree c report.ask) (target_tree c report.ask) report.ask.target (target_holds c report.ask trees),
+  scope_holds hides_nothing depth_below limit (reported_entries (client_tree c report)) (target_entries c report) (target_entries c report) report.ask.target (entries_hold c report trees),
 )
   where
     limit : DepthLimit
     limit = limit_of (client_tree c report) report.root report.ask.depth
+
+-- ---- every other client
+
+-- what does not stay gives way
+pub other_apart : (c : RepoState) (report : WholeReport) (q : PathValue) → report.ask.is_of_today ≡ false → is_apart c report q ≡ gives_way (old_tree c report q) (new_tree c report q)
+other_apart c report q other = by (drive_scope c report q) refl
+  where
+    had : Option Entry
+    had = client_entries c report q
+
+    stays : (aim_at c report q).stays ≡ are_of_one_kind had (aim_at c report q).entry
+    stays =
+        ap (λ (a : Aim). a.stays) (at_other c report q other)
+        ∙ ap (λ (a : Aim). are_of_one_kind had a.entry) (sym (at_other c report q other))
+
+    to_be : drive_scope c report q ≡ true → target_entries c report q ≡ (aim_at c report q).entry
+    to_be scope = ap (λ b. cond b (aim_at c report q).entry None) (and_front (is_at_or_under q report.ask.target) _ scope)
+
+    by : (b : Bool) → drive_scope c report q ≡ b → (is_some (cond b had None) && not (aim_at c report q).stays) ≡ gives_way (cond b had None) (cond b (target_entries c report q) None)
+    by true scope =
+        ap (λ s. is_some had && not s) stays ∙ gives_or_stays had (aim_at c report q).entry ∙ ap (gives_way had) (sym (to_be scope))
+    by false scope = refl
+
+-- and a token is judged beneath the goal
+pub other_stale : (c : RepoState) (report : WholeReport) (q : PathValue) → report.ask.is_of_today ≡ false
+    → is_stale c report q ≡ is_stale_token c.locks (goal_path report.ask q) (target_tree c report.ask q) (option_and_then (λ (h : ReportedEntry). h.token) (client_tree c report q))
+other_stale c report q other =
+    ap (λ p. is_stale_token c.locks p (target_entries c report q) (option_and_then (λ (h : ReportedEntry). h.token) (client_tree c report q))) (other_from c report q other)
+    ∙ ap (λ e. is_stale_token c.locks (goal_path report.ask q) e (option_and_then (λ (h : ReportedEntry). h.token) (client_tree c report q))) (other_target c report q other)

@@ -5,3 +5,5 @@ pub mod Deciding
 pub mod Finding
 pub mod Whole
 pub mod Parts
+pub mod Linking
+pub mod Aiming

@@ -1,7 +1,7 @@
 -- What a graft shows beneath a path is a subtree of its own.
 use Rattle.std.proofs.Common.{◌≡◌, ℕ, Bool, true, false, cond, List, [], ◌∷◌, ◌++◌, length, drop, Option, Some, None, refl, sym, ap, ◌∙◌, option_map}
 use Rattle.std.proofs.{lemmas.Bool.false≢true, lemmas.List.{append_assoc, append-nil}}
-use Rattle.std.specs.Prelude.{not, is_some, option_and_then, option_copied, IfSome}
+use Rattle.std.specs.Prelude.{not, is_some, option_and_then, IfSome}
 use Rattle.svnpath.specs.{PathLaws.{rest_append, under_append, under_is}, Paths.{Component, is_at_or_under, PathValue}}
 use Rattle.repo_api.specs.{States.{RepoState, trees_in}, Trees.{is_directory, Tree}, declared.entry.Entry.Entry}
 use Rattle.drive_rules.specs.{Scopes.depth_below, declared.depth.Depth.Depth, declared.depth.Depth.TheVariants.{Empty, Files, Immediates, Infinity}}
@@ -94,7 +94,7 @@ shown_part trees g s p rest is some =
 -- ---- places
 
 pub place_is : (trees : ℕ → Tree) (place : ReportedPlace) (from : PathValue) (t : Subtree) (rest : PathValue) → place.path ≡ from
-    → reported_subtree place.revision place.starts_empty place.depth (option_copied place.token) ≡ t → in_subtree trees from t rest ≡ in_place trees place rest
+    → reported_subtree place.revision place.starts_empty place.depth place.token ≡ t → in_subtree trees from t rest ≡ in_place trees place rest
 place_is trees place from t rest is part =
     ap (λ p. in_subtree trees p t rest) (sym is) ∙ ap (λ s. in_subtree trees place.path s rest) (sym part)
 

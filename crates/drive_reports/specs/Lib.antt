@@ -2,6 +2,9 @@ pub mod Named
 pub mod Reported
 pub mod Places
 pub mod Finding
+pub mod Links
+pub mod Wholes
+pub mod Aims
 pub mod Targets
 pub mod Depths
 pub mod Refusing

@@ -1,5 +1,5 @@
 -- What a client has at a path and beneath it.
-use Rattle.std.specs.Prelude.{◌≡◌, ℕ, Bool, false, true, ◌&&◌, List, [], ◌∷◌, ◌++◌, IfSome, Option, None, is_some, option_and_then, option_copied}
+use Rattle.std.specs.Prelude.{◌≡◌, ℕ, Bool, false, true, ◌&&◌, List, [], ◌∷◌, ◌++◌, IfSome, Option, None, is_some, option_and_then}
 use Rattle.std.specs.List.{list_any}
 use Rattle.svnpath.specs.Paths.{Component, is_at_or_under, PathValue}
 use Rattle.repo_api.specs.{States.{RepoState, Revision, trees_in}, Trees.Tree}
@@ -33,8 +33,7 @@ part_below s (c ∷ rest) = reported_subtree s.revision false (depth_below s.dep
 abbrev pub in_place : (ℕ → Tree) → ReportedPlace → List Component → Option ReportedEntry
 in_place trees place rest =
     in_subtree trees place.path
-    (reported_subtree place.revision place.starts_empty place.depth (option_copied place.token))
-    rest
+    (reported_subtree place.revision place.starts_empty place.depth place.token) rest
 
 -- What a client has at a path, by the first of the grafts of a report, is what one of them shows, or
 -- nothing where there is none. So it is beneath, where no graft of the report stands over it.

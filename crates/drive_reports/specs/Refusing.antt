@@ -51,16 +51,18 @@ revision_read c (Some n) = if nat_lt (youngest c) n then Err refusals.NoSuchRevi
 
 -- ---- the beginning
 
--- what an update, a switch to a URL or a status asks for, in a session at the anchor
-abbrev pub ask_of : RepoState → List ℕ → PathValue → Purpose → DriveRequest → Option (List ℕ)
-    → Result DriveAsk Refusal
-ask_of c name anchor purpose request url = do
+-- what an update, a switch to a URL or a status asks for, of a client of today or another, in a
+-- session at the anchor
+abbrev pub ask_of : RepoState → Bool → List ℕ → PathValue → Purpose → DriveRequest
+    → Option (List ℕ) → Result DriveAsk Refusal
+ask_of c is_of_today name anchor purpose request url = do
   own ← or_refusal (joined anchor request.target)
   goal ← url_or name own url
   revision ← revision_read c request.revision
   depth ← depth_asked purpose request.recurse request.depth
   Ok (record {
     purpose = purpose;
+    is_of_today = is_of_today;
     anchor = anchor;
     target = drop (length anchor) own;
     goal = goal;
@@ -106,11 +108,13 @@ abbrev pub report_with_graft : OpenState → Option ReportRoot → Graft → Rep
 report_with_graft report root g =
     Open (record { ask = report.ask; root = root; grafts = report.grafts ++ g ∷ [] })
 
--- the graft of a path that is set: what stands at a path of the repository in a revision
-abbrev pub graft_of : PathValue → PathValue → ℕ → Depth → ReportedPath → Graft
-graft_of p from n depth reported = record {
+-- the graft of a path that is set, or linked to a URL: what stands at a path of the repository in a
+-- revision
+abbrev pub graft_of : PathValue → PathValue → ℕ → Depth → ReportedPath → Option (List ℕ) → Graft
+graft_of p from n depth reported url = record {
   path = p;
   from = from;
+  is_link = is_some url;
   subtree = Some (record {
     revision = n;
     starts_empty = reported.starts_empty;
@@ -135,7 +139,7 @@ set_path_graft c name report reported url = do
   _ ← ok_if (has_place report.ask.target (reported_tree c report.ask report.grafts) p)
       refusals.NotFound
   _ ← ok_if (is_some (trees_in c.revisions n from) || may_be_absent report) refusals.NotFound
-  Ok (first_root report.root n depth, graft_of p from n depth reported)
+  Ok (first_root report.root n depth, graft_of p from n depth reported url)
 
 -- what a path that is set, or linked to a URL, makes of a report
 abbrev pub set_path_answer : RepoState → List ℕ → OpenState → ReportedPath → Option (List ℕ)
@@ -149,6 +153,7 @@ abbrev pub empty_graft : OpenState → PathValue → Graft
 empty_graft report p = record {
   path = p;
   from = own_source report.ask.anchor report.ask.target report.grafts p;
+  is_link = false;
   subtree = None;
 }
 

@@ -1,49 +1,26 @@
 -- The two trees of a drive: what the client has, and what it is to have.
-use Rattle.std.specs.Prelude.{ℕ, Bool, false, not, ◌&&◌, ◌++◌, List, length, drop, Option, Some, None, option_map, option_and_then, is_some, if◌then◌else◌}
+use Rattle.std.specs.Prelude.{ℕ, Bool, false, not, ◌&&◌, List, Option, Some, None, option_map, option_and_then, is_some, if◌then◌else◌}
 use Rattle.std.specs.FinMap.{get}
 use Rattle.svnpath.specs.Paths.{is_at_or_under, PathValue}
-use Rattle.repo_api.specs.{States.{LockMap, RepoState, trees_in}, Trees.Tree, declared.entry.Entry.Entry, declared.lock.Lock.Lock}
+use Rattle.repo_api.specs.{States.{LockMap, RepoState}, Trees.Tree, declared.entry.Entry.Entry, declared.lock.Lock.Lock}
 use Rattle.wire_forms.specs.Forms.{is_name}
-use Rattle.small_rules.specs.GivingWay.{gives_way}
 use Rattle.drive_rules.specs.{Scopes.{depth_below, DepthLimit, hides_nothing, scope_of, within}, Scopes.DepthLimit.{Given, Reported}}
 use Rattle.drive_rules.specs.declared.depth.Depth.{Depth}
-use Rattle.drive_reports.specs.{Reported.{ReportedTree, reported_entries, has_directory, reported}, declared.ask.DepthAsked.DepthAsked}
-use Rattle.drive_reports.specs.{declared.ask.DriveAsk.DriveAsk, declared.graft.Graft.Graft, declared.report.ReportRoot.ReportRoot}
+use Rattle.drive_reports.specs.{Aims.aim_at, Reported.{ReportedTree, reported_entries, has_directory}, declared.ask.DepthAsked.DepthAsked}
+use Rattle.drive_reports.specs.declared.report.ReportRoot.{ReportRoot}
+pub use Rattle.drive_reports.specs.Wholes.{WholeReport, reported_tree, client_tree, goal_path, target_tree}
 use Rattle.drive_reports.specs.declared.ask.DepthAsked.TheVariants as asks
-
--- a report that has come to its end
-pub record WholeReport : Type 0 where
-  pub ask : DriveAsk
-  pub root : ReportRoot
-  pub grafts : List Graft
 
 -- ---- what the client has, and what it is to have
 
--- what the client has, by the grafts of its report
-abbrev pub reported_tree : RepoState → DriveAsk → List Graft → ReportedTree
-reported_tree c ask grafts = reported (trees_in c.revisions) ask.target grafts
-
 -- what the client has, by a report that has come to its end
-abbrev pub client_tree : RepoState → WholeReport → ReportedTree
-client_tree c report = reported_tree c report.ask report.grafts
-
--- the path of the repository that a path at or under the target is to stand for
-abbrev pub goal_path : DriveAsk → PathValue → PathValue
-goal_path ask q = ask.goal ++ drop (length ask.target) q
-
--- what the client is to have: at the target what stands at the goal
-abbrev pub target_tree : RepoState → DriveAsk → Tree
-target_tree c ask q =
-    if is_at_or_under q ask.target
-    then trees_in c.revisions ask.revision (goal_path ask q)
-    else None
-
--- the entries of both, by a report that has come to its end
 abbrev pub client_entries : RepoState → WholeReport → Tree
 client_entries c report = reported_entries (client_tree c report)
 
+-- what it is to have: at and under the target what is to stand where each path is led
 abbrev pub target_entries : RepoState → WholeReport → Tree
-target_entries c report = target_tree c report.ask
+target_entries c report q =
+    if is_at_or_under q report.ask.target then (aim_at c report q).entry else None
 
 -- ---- stale tokens
 
@@ -58,10 +35,10 @@ is_stale_token locks path entry None = false
 is_stale_token locks path entry (Some token) =
     is_some entry && not (holds_token (get locks path) token)
 
--- the client's token of this path is stale, by the locks that stand now
+-- the client's token of this path is stale, by the locks that stand now where the path is led
 abbrev pub is_stale : RepoState → WholeReport → PathValue → Bool
 is_stale c report q =
-    is_stale_token c.locks (goal_path report.ask q) (target_tree c report.ask q)
+    is_stale_token c.locks (aim_at c report q).from (target_entries c report q)
     (option_and_then (λ h. h.token) (client_tree c report q))
 
 -- ---- the paths of the drive
@@ -85,7 +62,7 @@ drive_scope c report =
     scope_of hides_nothing depth_below (drive_limit c report) (client_entries c report)
     (target_entries c report) report.ask.target
 
--- what the client has of these paths
+-- what the client has of these paths: all that it has, whether it counts or not
 abbrev pub old_tree : RepoState → WholeReport → Tree
 old_tree c report = within (drive_scope c report) (client_entries c report)
 
@@ -93,10 +70,9 @@ old_tree c report = within (drive_scope c report) (client_entries c report)
 abbrev pub new_tree : RepoState → WholeReport → Tree
 new_tree c report = within (drive_scope c report) (target_entries c report)
 
--- what the client has of these paths, and is not to keep: nothing is to stand there, or an entry of
--- another kind
+-- what the client has of these paths, and is not to keep: it does not stay
 abbrev pub is_apart : RepoState → WholeReport → PathValue → Bool
-is_apart c report q = gives_way (old_tree c report q) (new_tree c report q)
+is_apart c report q = is_some (old_tree c report q) && not (aim_at c report q).stays
 
 -- the paths of the drive whose token is stale
 abbrev pub stale_in : RepoState → WholeReport → PathValue → Bool

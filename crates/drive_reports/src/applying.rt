@@ -67,23 +67,25 @@ fn first_root(root: Option<ReportRoot>, revision: u64, depth: Depth) -> ReportRo
     }
 }
 
-/// Makes the graft of a path that is set.
+/// Makes the graft of a path that is set, or linked to a URL.
 fn graft_of(
     path: Path,
     from: Path,
     revision: u64,
     depth: Depth,
-    reported: &ReportedPath,
+    link: Link<'_>,
 ) -> Result<Graft, AllocError>
-    ensures { IfOk result (λ graft. graft ≡ graft_of path from revision depth reported.now) }
+    ensures { IfOk result (λ graft. graft ≡ graft_of path from revision depth
+        link.entry.reported.now (option_copied link.entry.url)) }
 {
-    let token = reported.token.clone()?;
+    let token = link.reported.token.clone()?;
     Ok(Graft {
         path,
         from,
+        is_link: link.url.is_some(),
         subtree: Some(Subtree {
             revision,
-            starts_empty: reported.starts_empty,
+            starts_empty: link.reported.starts_empty,
             depth,
             token,
         }),
@@ -118,7 +120,7 @@ fn set_path_graft<R: Repository>(
         Refusal::NotFound,
     )?;
     let root = first_root(report.root, revision, depth);
-    Ok((root, graft_of(path, from, revision, depth, link.reported)?))
+    Ok((root, graft_of(path, from, revision, depth, link)?))
 }
 
 /// Makes the graft of a path at which nothing is.
@@ -136,6 +138,7 @@ fn delete_path_graft(
     Ok(Graft {
         path,
         from,
+        is_link: false,
         subtree: None,
     })
 }

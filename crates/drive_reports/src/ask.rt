@@ -22,6 +22,8 @@ pub enum DepthAsked {
 #[derive(Debug)]
 pub struct DriveAsk {
     pub purpose: Purpose,
+    /// Whether a client of today asks it.
+    pub is_of_today: bool,
     /// The path of the session's URL.
     pub anchor: Path,
     /// The path of what is to be changed, from the anchor on.
@@ -37,6 +39,7 @@ impl Drop for DriveAsk {
     fn drop(self) {
         let DriveAsk {
             purpose: _,
+            is_of_today: _,
             anchor: _,
             target: _,
             goal: _,

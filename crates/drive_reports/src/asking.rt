@@ -14,9 +14,10 @@ use std::alloc::{AllocError, Global};
 use svnpath::Path;
 use wire_reports::DriveRequest;
 
-/// Where a client asks: the name of the repository, and the path of the session's URL.
+/// Who asks, and where: whether it is a client of today, the name of the repository, and the path of the session's URL.
 #[derive(Clone, Copy)]
 pub struct Anchor<'a> {
+    pub is_of_today: bool,
     pub name: &'a str,
     pub path: &'a Path,
 }
@@ -36,8 +37,8 @@ pub fn ask_of<R: Repository>(
     anchor: Anchor<'_>,
     errand: Errand<'_>,
 ) -> Result<DriveAsk, NotDone>
-    ensures { JudgesReport result (ask_of (R.content view.now) anchor.entry.name.now
-        anchor.entry.path.now errand.entry.purpose errand.entry.request.now
+    ensures { JudgesReport result (ask_of (R.content view.now) anchor.entry.is_of_today
+        anchor.entry.name.now anchor.entry.path.now errand.entry.purpose errand.entry.request.now
         (option_copied errand.entry.url)) }
 {
     let own = path_named(alloc, anchor.path, &errand.request.target)?;
@@ -47,6 +48,7 @@ pub fn ask_of<R: Repository>(
     let depth = depth_asked(errand.purpose, errand.request.recurse, errand.request.depth)?;
     Ok(DriveAsk {
         purpose: errand.purpose,
+        is_of_today: anchor.is_of_today,
         anchor: anchor.path.clone()?,
         target: NamedPath::new(target),
         goal,
@@ -63,8 +65,8 @@ pub fn begin<R: Repository>(
     errand: Errand<'_>,
 ) -> Result<Report<Grafts>, AllocError>
     ensures { IfOk result (λ report. report ≡ begun_report (ask_of (R.content view.now)
-        anchor.entry.name.now anchor.entry.path.now errand.entry.purpose errand.entry.request.now
-        (option_copied errand.entry.url))) }
+        anchor.entry.is_of_today anchor.entry.name.now anchor.entry.path.now
+        errand.entry.purpose errand.entry.request.now (option_copied errand.entry.url))) }
 {
     match ask_of(alloc, view, anchor, errand) {
         Ok(ask) => Ok(Report::Open(OpenReport {

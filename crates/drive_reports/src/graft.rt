@@ -24,6 +24,8 @@ pub struct Graft {
     pub path: Path,
     /// The path in the repository that it stands for from now on.
     pub from: Path,
+    /// Whether the path is linked to a URL.
+    pub is_link: bool,
     pub subtree: Option<Subtree>,
 }
 

@@ -1,7 +1,7 @@
 //! The grafts of a report.
 ghost use Rattle.std.specs.{Prelude.{◌≡◌, ◌≤◌, ◌||◌, ◌∷◌, ◌++◌, [], length, OnOk, OnErr, IfOk}, List.list_any};
 ghost use Rattle.drive_rules.specs.Scopes.{below};
-ghost use Rattle.drive_reports.specs.{Depths.is_shallow, Finding.{IsLastAbove, IsLastAt, later}, Named.{AreNamed, IsNamed}};
+ghost use Rattle.drive_reports.specs.{Depths.is_shallow, Finding.{IsLastAbove, IsLastAt, later}, Links.is_linked, Named.{AreNamed, IsNamed}};
 
 use crate::graft::{Graft, is_shallow};
 use crate::index::GraftIndex;
@@ -16,6 +16,7 @@ pub struct Grafts {
     grafts: Vec<Graft>,
     index: GraftIndex,
     has_shallow: bool,
+    has_link: bool,
     /// About how many bytes of memory they take.
     taken: usize,
 }
@@ -26,6 +27,7 @@ impl Drop for Grafts {
             grafts: _,
             index: _,
             has_shallow: _,
+            has_link: _,
             taken: _,
         } = self;
     }
@@ -33,7 +35,7 @@ impl Drop for Grafts {
 
 impl Model for Grafts {
     ghost use Rattle.std.specs.{Prelude.{◌≡◌, List}, List.list_any};
-    ghost use Rattle.drive_reports.specs.{Depths.is_shallow, Finding.AreFound, Named.AreNamed, declared.graft.Graft.Graft};
+    ghost use Rattle.drive_reports.specs.{Depths.is_shallow, Finding.AreFound, Links.is_linked, Named.AreNamed, declared.graft.Graft.Graft};
 
     ghost Value = { List Graft };
 
@@ -41,7 +43,8 @@ impl Model for Grafts {
 
     ghost invariant = { λ g. AreNamed g.grafts.items
         × AreFound g.grafts.items g.index.newest.entries g.index.older.items
-        × (g.has_shallow ≡ list_any is_shallow g.grafts.items) };
+        × (g.has_shallow ≡ list_any is_shallow g.grafts.items)
+        × (g.has_link ≡ list_any is_linked g.grafts.items) };
 }
 
 /// Says whether less than everything is reported of what one graft more puts, or it was before.
@@ -49,6 +52,13 @@ fn has_shallow_too(before: bool, graft: &Graft) -> bool
     ensures { result ≡ (before || is_shallow graft.now) }
 {
     before || is_shallow(graft)
+}
+
+/// Says whether one graft more is a link, or one was before.
+fn has_link_too(before: bool, graft: &Graft) -> bool
+    ensures { result ≡ (before || is_linked graft.now) }
+{
+    before || graft.is_link
 }
 
 /// Gives the later of two places, if there are any.
@@ -71,6 +81,7 @@ impl Grafts {
             grafts: Vec::new(alloc),
             index: GraftIndex::new(alloc),
             has_shallow: false,
+            has_link: false,
             taken: 0,
         }
     }
@@ -82,12 +93,14 @@ impl Grafts {
         ensures err { OnErr result (self.new ≡ self.old) }
     {
         let has_shallow = has_shallow_too(self.has_shallow, &graft);
+        let has_link = has_link_too(self.has_link, &graft);
         let taken = taken_with(self.taken, &graft)?;
         let path = graft.path.clone()?;
         self.grafts.push(graft)?;
         match self.index.note(&path) {
             Ok(()) => {
                 self.has_shallow = has_shallow;
+                self.has_link = has_link;
                 self.taken = taken;
                 Ok(())
             }
@@ -110,6 +123,13 @@ impl Grafts {
         ensures { result ≡ list_any is_shallow self.now }
     {
         self.has_shallow
+    }
+
+    /// Says whether some graft is a link.
+    pub(crate) fn has_link(&self) -> bool
+        ensures { result ≡ list_any is_linked self.now }
+    {
+        self.has_link
     }
 
     /// Says whether a graft stands beneath a path.

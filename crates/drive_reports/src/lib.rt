@@ -9,6 +9,7 @@ mod grafts;
 mod index;
 mod judging;
 mod laws;
+mod links;
 mod named_path;
 mod report;
 mod reported;
@@ -21,9 +22,10 @@ pub use asking::{Anchor, Errand, ask_of, begin};
 pub use graft::{Graft, Subtree, is_to_the_end};
 pub use grafts::Grafts;
 pub use laws::{
-    drive_trees_hold_together, reported_trees_hold_together, revisions_hold_together,
-    whole_reports_are_revisions,
+    drive_trees_hold_together, others_are_led_to_the_goal, reported_trees_hold_together,
+    revisions_hold_together, whole_reports_are_revisions,
 };
+pub use links::link_at;
 pub use named_path::NamedPath;
 pub use report::{OpenReport, Report, ReportRoot};
 pub use reported::{ReportedPlace, reported_at};

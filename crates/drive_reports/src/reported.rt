@@ -140,12 +140,12 @@ fn graft_at<'a, R: Repository>(
 /// What a client has at a path: what stands at a path of a revision, its top alone where it starts
 /// empty, so deep, with the token of the lock of its top.
 #[derive(Drop)]
-pub struct ReportedPlace<'a> {
+pub struct ReportedPlace {
     pub revision: u64,
     pub path: Path,
     pub starts_empty: bool,
     pub depth: Depth,
-    pub token: Option<&'a ByteString>,
+    pub token: Option<ByteString>,
 }
 
 /// Gives the depth of what is in a directory of a depth.
@@ -159,38 +159,39 @@ fn depth_below(depth: Depth) -> Depth
 }
 
 /// Gives what of a subtree is so many names beneath its top, at this path of its revision.
-fn place_in(subtree: &Subtree, names: usize, path: Path) -> ReportedPlace<'_>
-    ensures path { result.path ≡ path }
-    ensures part { (rest : List Component) → names ≡ length rest
-        → reported_subtree result.revision result.starts_empty result.depth
-        (option_copied result.token) ≡ part_below subtree.now rest }
+fn place_in(subtree: &Subtree, names: usize, path: Path) -> Result<ReportedPlace, AllocError>
+    ensures path { IfOk result (λ place. place.path ≡ path) }
+    ensures part { IfOk result (λ place. (rest : List Component) → names ≡ length rest
+        → reported_subtree place.revision place.starts_empty place.depth place.token
+        ≡ part_below subtree.now rest) }
 {
     if names == 0 {
-        ReportedPlace {
+        let token = subtree.token.clone()?;
+        Ok(ReportedPlace {
             revision: subtree.revision,
             path,
             starts_empty: subtree.starts_empty,
             depth: subtree.depth,
-            token: subtree.token.as_ref(),
-        }
+            token,
+        })
     } else {
-        ReportedPlace {
+        Ok(ReportedPlace {
             revision: subtree.revision,
             path,
             starts_empty: false,
             depth: depth_below(subtree.depth),
             token: None,
-        }
+        })
     }
 }
 
 /// Says where what a graft shows at a path comes from, if it shows something.
-fn shown_at<'a, R: Repository>(
+fn shown_at<R: Repository>(
     alloc: Global,
     view: &R,
-    graft: &'a Graft,
+    graft: &Graft,
     path: &Path,
-) -> Result<Option<ReportedPlace<'a>>, AllocError>
+) -> Result<Option<ReportedPlace>, AllocError>
     ensures { IfOk result (IsPlacedAt (R.content view.now)
         (λ q. shown_by (trees_in (R.content view.now).revisions) q (Some graft.now)) [] path.now) }
 {
@@ -202,17 +203,18 @@ fn shown_at<'a, R: Repository>(
     }
     let names = path.len() - graft.path.len();
     let from = path.rebased(alloc, &graft.path, &graft.from)?;
-    Ok(Some(place_in(subtree, names, from)))
+    let place = place_in(subtree, names, from)?;
+    Ok(Some(place))
 }
 
 /// Finds what a client has at a path, if it has something. The top is the target.
-pub fn reported_at<'a, R: Repository>(
+pub fn reported_at<R: Repository>(
     alloc: Global,
     view: &R,
     top: &Path,
-    grafts: &'a Grafts,
+    grafts: &Grafts,
     path: &Path,
-) -> Result<Option<ReportedPlace<'a>>, AllocError>
+) -> Result<Option<ReportedPlace>, AllocError>
     requires { AllHoldTogether (R.content view.now).revisions }
     ensures { IfOk result (IsPlacedAt (R.content view.now)
         (reported (trees_in (R.content view.now).revisions) top.now grafts.now) grafts.now path.now) }

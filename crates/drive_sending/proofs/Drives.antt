@@ -13,7 +13,7 @@ use Rattle.drive_rules.proofs.{Joined.{and_front, named_append}, Trees.{in_scope
 use Rattle.reporter.specs.{Own.{Change, property_steps, text_steps}, Visits.{entry_kind, kind_if, plan_steps, visit_steps}, declared.visit.Visit.Visit}
 use Rattle.reporter.specs.declared.visit.Visit.TheVariants.{Open, Add, Delete, Close}
 use Rattle.drive_reports.specs.Reported.{reported_entries}
-use Rattle.drive_reports.specs.Targets.{WholeReport, client_tree, target_tree, limit_of, drive_scope, is_apart, is_stale, old_tree, new_tree, stale_in}
+use Rattle.drive_reports.specs.Targets.{WholeReport, client_tree, target_entries, limit_of, drive_scope, is_apart, is_stale, old_tree, new_tree, stale_in}
 use Rattle.drive_wire.specs.{EntryProperties.{entry_property, told_by, told}, Saying.Says}
 use Rattle.drive_wire.specs.Sent.{IsDrive, LeadsToTarget, TellsEach, base_of, or_no_text, enters, from_root, seen_by}
 use Rattle.drive_wire.proofs.{Joining.says_append, Writing.reads_close}
@@ -274,6 +274,6 @@ module _ (c : RepoState) (report : WholeReport) where
       right : LeadsToTarget c report (Steps (from_top report.ask vs))
       right =
           in_scope (seen_by report.ask.purpose) (drive_scope c report) (stale_in c report) (is_apart c report) report.ask.target
-          (reported_entries (client_tree c report)) (target_tree c report.ask) (Steps (from_top report.ask vs))
-          (is_scope hides_nothing depth_below (limit_of (client_tree c report) report.root report.ask.depth) (reported_entries (client_tree c report)) (target_tree c report.ask) report.ask.target)
+          (reported_entries (client_tree c report)) (target_entries c report) (Steps (from_top report.ask vs))
+          (is_scope hides_nothing depth_below (limit_of (client_tree c report) report.root report.ask.depth) (reported_entries (client_tree c report)) (target_entries c report) report.ask.target)
           (λ w s. and_front (drive_scope c report w) (is_stale c report w) s) plan.right

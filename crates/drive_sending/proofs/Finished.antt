@@ -1,5 +1,5 @@
 -- Where there is no target, a directory is to stand at the root of a drive.
-use Rattle.std.proofs.Common.{◌≡◌, ℕ, inr, List, Bool, true, false, ◌&&◌, [], ◌++◌, append-nil, length, drop, Option, Some, None, refl, sym, ap, ◌∙◌, subst}
+use Rattle.std.proofs.Common.{◌≡◌, ℕ, inr, List, Bool, true, false, ◌&&◌, [], length, drop, Option, Some, None, refl, sym, ap, ◌∙◌, subst}
 use Rattle.std.proofs.{Common.if◌then◌else◌, lemmas.Bool.false≢true}
 use Rattle.repo_api.specs.{Soundness.AreTrees, States.{RepoState, trees_in}, Trees.is_directory_there, declared.entry.Entry.Entry}
 use Rattle.std.specs.Prelude.{Result, Ok, Err, ok_or, is_some}
@@ -10,7 +10,8 @@ use Rattle.drive_rules.specs.{Scopes.{depth_below, hides_nothing, stays_in_scope
 use Rattle.drive_rules.proofs.Joined.{and_front}
 use Rattle.reporter.specs.{Visits.{entry_kind, kind_if}, declared.visit.Visit.Visit}
 use Rattle.drive_reports.specs.{Named.{IsNamed, AreNamed}, Refusing.{◌>>=◌, ok_if, OpenState, has_goal, has_anchor, finish_root}}
-use Rattle.drive_reports.specs.{Reported.{reported_entries, has_directory}, Targets.{WholeReport, client_tree, reported_tree, target_tree, limit_of, new_tree}}
+use Rattle.drive_reports.specs.{Aims.aim_at, Reported.{reported_entries, has_directory}, Targets.{WholeReport, client_tree, reported_tree, target_entries, limit_of, new_tree}}
+use Rattle.drive_reports.proofs.Aiming.{root_entry}
 use Rattle.drive_reports.specs.declared.report.ReportRoot.{ReportRoot}
 use Rattle.drive_sides.specs.Plans.{whole, IsPlan}
 use Rattle.wire_edits.specs.declared.editing.EditorCommand.{EditorCommand}
@@ -51,14 +52,14 @@ module _ (c : RepoState) (report : OpenState) (root : ReportRoot) where
   Whole = whole report root
 
   -- what is to stand at the root, by the target
-  abbrev root_entry : PathValue → Option Entry
-  root_entry top =
-      if is_at_or_under [] top && stays_in_scope hides_nothing depth_below (limit_of (client_tree c Whole) root report.ask.depth) (reported_entries (client_tree c Whole)) (target_tree c report.ask) top (top_limit (limit_of (client_tree c Whole) root report.ask.depth) top) (drop (length top) [])
-      then (if is_at_or_under [] top then trees_in c.revisions report.ask.revision (report.ask.goal ++ drop (length top) []) else None)
+  abbrev root_in : PathValue → Option Entry
+  root_in top =
+      if is_at_or_under [] top && stays_in_scope hides_nothing depth_below (limit_of (client_tree c Whole) root report.ask.depth) (reported_entries (client_tree c Whole)) (target_entries c Whole) top (top_limit (limit_of (client_tree c Whole) root report.ask.depth) top) (drop (length top) [])
+      then (if is_at_or_under [] top then (aim_at c Whole []).entry else None)
       else None
 
   root_is : report.ask.target ≡ [] → new_tree c Whole [] ≡ trees_in c.revisions report.ask.revision report.ask.goal
-  root_is none = ap root_entry none ∙ ap (λ p. trees_in c.revisions report.ask.revision p) (append-nil report.ask.goal)
+  root_is none = ap root_in none ∙ root_entry c Whole none
 
   anchored : same_path report.ask.target [] ≡ true → has_anchor c report.ask report.grafts ≡ true → is_directory_there (trees_in c.revisions report.ask.revision report.ask.goal) ≡ true
   anchored none anchor =

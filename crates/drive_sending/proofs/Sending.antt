@@ -2,21 +2,22 @@
 use Rattle.std.proofs.Common.{◌≡◌, ◌≤◌, ℕ, Bool, true, false, not, cond, ◌&&◌, ◌||◌, List, [], ◌∷◌, ◌++◌, length, drop, Option, Some, None, option_map, refl}
 use Rattle.std.proofs.{Common.{sym, ap, ◌∙◌, subst, arith, append-nil, ⊎_elim, if◌then◌else◌}, lemmas.Bool.false≢true}
 use Rattle.std.proofs.{lemmas.List.Elements.{All-nil, All-cons, All-head, All-tail, All-append}, lemmas.Option.none-some}
-use Rattle.std.specs.Prelude.{All, fold, is_some, option_and_then}
-use Rattle.svnpath.specs.{Components.IsComponent, PathLaws.{same_path_refl, under_is}, Paths.{Component, is_at_or_under, PathValue, same_path}}
+use Rattle.std.specs.{List.list_any, Prelude.{All, fold, is_some, map, option_and_then}}
+use Rattle.svnpath.specs.{Components.IsComponent, PathLaws.{same_path_is, same_path_refl, under_is}, Paths.{Component, is_at_or_under, PathValue, same_path}}
 use Rattle.svndiff0.specs.Window.{limit}
 use Rattle.repo_api.specs.{Soundness.AreTrees, States.{RepoState, trees_in}, Trees.{is_directory, text_of, Tree}, declared.entry.Entry.Entry}
 use Rattle.repo_api.specs.declared.limits.TheConstants.{TEXT_LIMIT}
 use Rattle.repo_laws.proofs.Standing.{right_where, short_where}
 use Rattle.drive_rules.specs.{Drives.{Differs, HasReason}, Places.is_in_directory, Scopes.depth_below, Steps.{is_named, node_of, Step}}
 use Rattle.drive_rules.specs.{declared.depth.Depth.Depth, declared.depth.Depth.TheVariants.{Empty, Files, Immediates, Infinity}}
-use Rattle.drive_rules.proofs.Joined.{and_front, named_append, or_right}
+use Rattle.drive_rules.proofs.Joined.{and_front, named_append, or_cases, or_right}
 use Rattle.reporter.specs.{Nesting.{stands_as, walk}, Visits.{OwnSteps, entry_kind, kind_if, plan_steps, visit_steps}, declared.visit.Visit.Visit}
 use Rattle.reporter.specs.declared.visit.Visit.TheVariants.{Open, Add, Delete, Close}
 use Rattle.drive_reports.specs.Named.{IsNamed, AreNamed}
 use Rattle.drive_reports.specs.Reported.{ReportedEntry, ReportedTree, left_by, top_entry, reported_as, in_subtree, in_graft, has_place, with_graft}
-use Rattle.drive_reports.specs.Targets.{WholeReport, client_tree, drive_scope, goal_path, is_apart, is_stale, is_stale_token, new_tree, old_tree, stale_in}
-use Rattle.drive_reports.specs.{Targets.target_tree, declared.graft.Graft.Graft, declared.graft.Subtree.Subtree}
+use Rattle.drive_reports.specs.{Aims.aim_at, Targets.{WholeReport, client_tree, drive_scope, is_apart, is_stale, is_stale_token, new_tree, old_tree, stale_in, target_entries}}
+use Rattle.drive_reports.specs.{declared.graft.Graft.Graft, declared.graft.Subtree.Subtree}
+use Rattle.drive_reports.proofs.Aiming.{at_led, entry_is, entry_stands, IsFront, IsLed}
 use Rattle.drive_wire.specs.Sent.{or_no_text}
 use Rattle.drive_sides.specs.Plans.{IsPlan, from_top}
 use Rattle.drive_sides.proofs.Listing.{in_old, in_new, under_target}
@@ -132,14 +133,30 @@ module _ (c : RepoState) (report : WholeReport) (trees : AreTrees c.revisions) (
   old_named : (q : PathValue) → is_some (Old q) ≡ true → IsNamed q
   old_named q some = grafts_named (trees_in c.revisions) report.ask.target report.grafts (λ _. None) all_named grafts (λ p h. absurd (false≢true h)) q (in_old c report q some)
 
-  target_named : (q : PathValue) → is_some (target_tree c report.ask q) ≡ true → IsNamed q
-  target_named q some =
-      named_beneath report.ask.target q under target
-      (named_behind report.ask.goal (drop (length report.ask.target) q)
-      (all_named report.ask.revision (goal_path report.ask q) (sym (ap (λ b. is_some (cond b (trees_in c.revisions report.ask.revision (goal_path report.ask q)) None)) under) ∙ some)))
+  -- a path that others are led from can be named
+  among_named : (gs : List Graft) → AreNamed gs → (p : PathValue) → list_any (same_path p) (map (λ (g : Graft). g.path) gs) ≡ true → IsNamed p
+  among_named [] right p h = absurd (false≢true h)
+  among_named (g ∷ gs) right p h =
+      ⊎_elim (λ same. subst IsNamed (sym (same_path_is p g.path same)) (All-head (λ (x : Graft). IsNamed x.path) g gs right))
+      (λ later. among_named gs (All-tail (λ (x : Graft). IsNamed x.path) g gs right) p later) (or_cases (same_path p g.path) (list_any (same_path p) (map (λ (x : Graft). x.path) gs)) h)
+
+  front_named : (front : PathValue) → IsFront report front → IsNamed front
+  front_named front is = ⊎_elim (λ top. subst IsNamed (sym top) target) (λ among. among_named report.grafts grafts front among) is
+
+  led_named : (q from : PathValue) → IsLed report q from → is_some (trees_in c.revisions report.ask.revision from) ≡ true → IsNamed q
+  led_named q from so some =
+      subst IsNamed (sym so.path)
+      (All-append IsComponent so.front so.rest (front_named so.front so.is)
+      (named_behind so.base so.rest (subst IsNamed so.led (all_named report.ask.revision from some))))
+
+  target_named : (q : PathValue) → is_some (target_entries c report q) ≡ true → IsNamed q
+  target_named q some = led_named q (aim_at c report q).from (at_led c report q under) (sym (ap is_some (entry_stands c report q under there)) ∙ there)
     where
       under : is_at_or_under q report.ask.target ≡ true
-      under = under_target c report.ask q some
+      under = under_target c report q some
+
+      there : is_some (aim_at c report q).entry ≡ true
+      there = sym (ap (λ b. is_some (cond b (aim_at c report q).entry None)) under) ∙ some
 
   new_named : (q : PathValue) → is_some (New q) ≡ true → IsNamed q
   new_named q some = target_named q (in_new c report q some)
@@ -158,9 +175,9 @@ module _ (c : RepoState) (report : WholeReport) (trees : AreTrees c.revisions) (
   stale_named : (p : PathValue) → stale_in c report p ≡ true → IsNamed p
   stale_named p stale = by (option_and_then (λ (h : ReportedEntry). h.token) (client_tree c report p)) (and_behind (drive_scope c report p) (is_stale c report p) stale)
     where
-      by : (token : Option (List ℕ)) → is_stale_token c.locks (goal_path report.ask p) (target_tree c report.ask p) token ≡ true → IsNamed p
+      by : (token : Option (List ℕ)) → is_stale_token c.locks (aim_at c report p).from (target_entries c report p) token ≡ true → IsNamed p
       by None h = absurd (false≢true h)
-      by (Some token) h = target_named p (and_front (is_some (target_tree c report.ask p)) _ h)
+      by (Some token) h = target_named p (and_front (is_some (target_entries c report p)) _ h)
 
   reason_named : (q : PathValue) → HasReason (stale_in c report) (is_apart c report) Old New q → IsNamed q
   reason_named q reason =
@@ -176,13 +193,20 @@ module _ (c : RepoState) (report : WholeReport) (trees : AreTrees c.revisions) (
       by None is = omega arith
       by (Some text) is = short text is
 
+  short_there : (p : PathValue) → is_at_or_under p report.ask.target ≡ true → length (or_no_text (text_of (aim_at c report p).entry)) ≤ limit
+  short_there p under =
+      ⊎_elim (λ none. subst (λ o. length (or_no_text (text_of o)) ≤ limit) (sym none) (omega arith))
+      (λ is. subst (λ o. length (or_no_text (text_of o)) ≤ limit) (sym is)
+      (short_text (trees_in c.revisions report.ask.revision (aim_at c report p).from) (λ text so. short_where c.revisions report.ask.revision (aim_at c report p).from text trees so)))
+      (entry_is c report p under)
+
   short_new : (p : PathValue) → length (or_no_text (text_of (New p))) ≤ limit
-  short_new p = by (drive_scope c report p) (is_at_or_under p report.ask.target)
+  short_new p = by (drive_scope c report p) (is_at_or_under p report.ask.target) refl
     where
-      by : (a b : Bool) → length (or_no_text (text_of (cond a (cond b (trees_in c.revisions report.ask.revision (goal_path report.ask p)) None) None))) ≤ limit
-      by false b = omega arith
-      by true false = omega arith
-      by true true = short_text (trees_in c.revisions report.ask.revision (goal_path report.ask p)) (λ text is. short_where c.revisions report.ask.revision (goal_path report.ask p) text trees is)
+      by : (a b : Bool) → is_at_or_under p report.ask.target ≡ b → length (or_no_text (text_of (cond a (cond b (aim_at c report p).entry None) None))) ≤ limit
+      by false b under = omega arith
+      by true false under = omega arith
+      by true true under = short_there p under
 
   -- a walk goes on from what is open after the visit
   went_on : (b : Bool) (mid : List PathValue) (rest : List PathValue → Option (List PathValue)) (end : List PathValue)

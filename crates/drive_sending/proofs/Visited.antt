@@ -8,7 +8,7 @@ use Rattle.reporter.specs.{Visiting.MayVisit, declared.visit.Visit.Visit, declar
 use Rattle.reporter.specs.declared.visitor.Visitor.{Visitor}
 use Rattle.drive_reports.specs.Targets.{WholeReport}
 use Rattle.drive_sides.proofs.Existing.{some_visits}
-use Rattle.drive_sides.specs.Plans.{drive_trees}
+use Rattle.drive_sides.specs.{Plans.drive_trees, declared.known.DriveKnown.DriveKnown}
 use Rattle.drive_sending.specs.{Commands.{around_after, plan_commands, visit_commands}, Driving.{Visiting, command_bytes}}
 use Rattle.drive_sending.proofs.Written.{behind_part, both, first_part}
 
@@ -23,7 +23,7 @@ deeper_by_one around Close = omega arith
 
 module _ (c : RepoState) (report : WholeReport) where
   -- what a visitor has left before some visits, and after them
-  abbrev MayFollow : Visitor → Visitor → List Visit → Type 0
+  abbrev MayFollow : Visitor DriveKnown → Visitor DriveKnown → List Visit → Type 0
   MayFollow start now said = (rest : List Visit) → MayVisit (drive_trees c report) now rest → MayVisit (drive_trees c report) start (said ++ rest)
 
   -- the commands of some visits come before those of the others, at whose beginning so many
@@ -33,29 +33,29 @@ module _ (c : RepoState) (report : WholeReport) where
 
   module _ {S : Type 0} (writes : S → S → List ℕ → Type 0) where
     -- some visits are said
-    pub record HasSaid (start now : Visitor) (s t : S) (around : ℕ) : Type 0 where
+    pub record HasSaid (start now : Visitor DriveKnown) (s t : S) (around : ℕ) : Type 0 where
       pub said : List Visit
       pub follows : MayFollow start now said
       pub splits : Splits said around
       pub wrote : writes s t (command_bytes (plan_commands c report 0 said))
 
-    abbrev SaysAll : Visitor → S → S → Type 0
+    abbrev SaysAll : Visitor DriveKnown → S → S → Type 0
     SaysAll start s t = Visiting (drive_trees c report) start (λ visits. writes s t (command_bytes (plan_commands c report 0 visits)))
 
-    abbrev SaysPart : Visitor → S → S → Type 0
+    abbrev SaysPart : Visitor DriveKnown → S → S → Type 0
     SaysPart start s t = Visiting (drive_trees c report) start (λ visits. WritesPart (writes s t) (command_bytes (plan_commands c report 0 visits)))
 
     -- none yet
-    pub said_none : ((s : S) → writes s s []) → (start : Visitor) (s : S) → HasSaid start start s s 0
+    pub said_none : ((s : S) → writes s s []) → (start : Visitor DriveKnown) (s : S) → HasSaid start start s s 0
     said_none nothing start s = record { said = []; follows = λ rest may. may; splits = λ rest. refl; wrote = nothing s }
 
     -- where none is left, all is said
-    pub said_all : (start now : Visitor) (s t : S) (around : ℕ) → HasSaid start now s t around → MayVisit (drive_trees c report) now [] → SaysAll start s t
+    pub said_all : (start now : Visitor DriveKnown) (s t : S) (around : ℕ) → HasSaid start now s t around → MayVisit (drive_trees c report) now [] → SaysAll start s t
     said_all start now s t around so end =
         (so.said, subst (MayVisit (drive_trees c report) start) (append-nil so.said) (so.follows [] end), so.wrote)
 
     -- where no more are said, those are a part
-    pub said_part : (start now : Visitor) (s t : S) (around : ℕ) → HasSaid start now s t around → SaysPart start s t
+    pub said_part : (start now : Visitor DriveKnown) (s t : S) (around : ℕ) → HasSaid start now s t around → SaysPart start s t
     said_part start now s t around so =
         let rest : (visits : List Visit) × MayVisit (drive_trees c report) now visits = some_visits c report now in (
           so.said ++ rest.0,
@@ -64,7 +64,7 @@ module _ (c : RepoState) (report : WholeReport) where
               (first_part (writes s t) (plan_commands c report 0 so.said) (plan_commands c report around rest.0) (part_all (writes s t) (command_bytes (plan_commands c report 0 so.said)) so.wrote)),
         )
 
-    abbrev Gives : Visitor → Visitor → Visit → Type 0
+    abbrev Gives : Visitor DriveKnown → Visitor DriveKnown → Visit → Type 0
     Gives now later visit = (rest : List Visit) → MayVisit (drive_trees c report) later rest → MayVisit (drive_trees c report) now (visit ∷ rest)
 
     splits_next : (said : List Visit) (around : ℕ) (visit : Visit) → Splits said around → (rest : List Visit)
@@ -76,7 +76,7 @@ module _ (c : RepoState) (report : WholeReport) where
 
     module _ (more : (s t u : S) (first second : List ℕ) → writes s t first → writes t u second → writes s u (first ++ second)) where
       -- one visit more is said
-      pub said_next : (start now later : Visitor) (s t u : S) (around after : ℕ) (visit : Visit) → HasSaid start now s t around → Gives now later visit → after ≡ around_after around visit
+      pub said_next : (start now later : Visitor DriveKnown) (s t u : S) (around after : ℕ) (visit : Visit) → HasSaid start now s t around → Gives now later visit → after ≡ around_after around visit
           → writes t u (command_bytes (visit_commands c report around visit)) → HasSaid start later s u after
       said_next start now later s t u around after visit so gives is wrote = record {
         said = so.said ++ visit ∷ [];
@@ -92,7 +92,7 @@ module _ (c : RepoState) (report : WholeReport) where
       }
 
       -- where one fails, a part is said
-      pub said_failed : (start now later : Visitor) (s t u : S) (around : ℕ) (visit : Visit) → HasSaid start now s t around → Gives now later visit
+      pub said_failed : (start now later : Visitor DriveKnown) (s t u : S) (around : ℕ) (visit : Visit) → HasSaid start now s t around → Gives now later visit
           → WritesPart (writes t u) (command_bytes (visit_commands c report around visit)) → SaysPart start s u
       said_failed start now later s t u around visit so gives part =
           let rest : (visits : List Visit) × MayVisit (drive_trees c report) later visits = some_visits c report later in (

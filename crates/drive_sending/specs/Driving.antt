@@ -7,10 +7,10 @@ use Rattle.wire_replies.specs.declared.reply.Reply.TheVariants as replies
 use Rattle.reporter.specs.{Visiting.MayVisit, Walks.WalkedTrees, declared.visit.Visit.Visit, declared.visitor.Visitor.Visitor}
 use Rattle.drive_reports.specs.Targets.{WholeReport}
 use Rattle.drive_wire.specs.Sent.{IsDrive}
-use Rattle.drive_sides.specs.{OnTrees.on_trees, Plans.drive_trees, declared.two_trees.TwoTrees.TwoTrees}
+use Rattle.drive_sides.specs.{OnTrees.on_trees, Plans.drive_trees, declared.known.DriveKnown.DriveKnown, declared.two_trees.TwoTrees.TwoTrees}
 
 -- visits that a visitor may have left, of which this is so
-abbrev pub Visiting : WalkedTrees → Visitor → (List Visit → Type 0) → Type 0
+abbrev pub Visiting : WalkedTrees → Visitor DriveKnown → (List Visit → Type 0) → Type 0
 Visiting t visitor holds = (visits : List Visit) × MayVisit t visitor visits × holds visits
 
 -- the bytes of commands
@@ -23,7 +23,7 @@ Sends r writes commands = Writes r writes (command_bytes commands)
 
 -- so were the commands of visits from one tree to the other, which a visitor may have left
 abbrev pub SendsVisits : {T E V X : Type 0} {R : Ghosts V X} → Result T E → (List ℕ → Type 0)
-    → TwoTrees V X R → Visitor → (RepoState → WholeReport → List Visit → List EditorCommand)
+    → TwoTrees V X R → Visitor DriveKnown → (RepoState → WholeReport → List Visit → List EditorCommand)
     → Type 0
 SendsVisits r writes trees visitor commands =
     Visiting (on_trees trees drive_trees) visitor

@@ -3,7 +3,8 @@ ghost use Rattle.std.specs.Prelude.{◌≡◌, ◌∷◌, ◌++◌, [], Ok, Some
 ghost use Rattle.repo_api.specs.Soundness.{AreTrees};
 ghost use Rattle.drive_rules.specs.Steps.EntryKind.{DirectoryKind};
 ghost use Rattle.drive_reports.specs.Refusing.{finish_root};
-ghost use Rattle.drive_sides.specs.{OnTrees.on_trees, Plans.{drive_trees, whole}};
+ghost use Rattle.reporter.specs.Knowing.{HoldsKnown};
+ghost use Rattle.drive_sides.specs.{Known.IsKnownOf, OnTrees.on_trees, Plans.{drive_trees, whole}};
 ghost use Rattle.drive_sending.specs.Commands.{body_commands, drive_of, plan_commands, root_commands};
 ghost use Rattle.drive_sending.specs.{Driving.{drive_replies, SaysDrive, Sends, SendsVisits, Visiting}, Tokens.token_of};
 ghost use Rattle.wire_replies.specs.{Made.Makes, Sinks.Says};
@@ -13,9 +14,8 @@ use crate::saying::say_made;
 use crate::telling::say_root_news;
 use crate::visits::{root_news, say_close, say_visits};
 use drive_reports::{Grafts, OpenReport, ReportRoot};
-use drive_sides::{TwoTrees, visitor};
+use drive_sides::{DriveVisitor, TwoTrees, visitor};
 use repo_api::Repository;
-use reporter::Visitor;
 use std::alloc::{AllocError, Global};
 use wire_edits::EditorCommand;
 use wire_replies::{Reply, ReplySink, say_new};
@@ -61,9 +61,10 @@ fn say_root<R: Repository, S: ReplySink>(
 fn say_below<R: Repository, S: ReplySink>(
     alloc: Global,
     trees: &TwoTrees<R>,
-    visitor: &mut Visitor,
+    visitor: &mut DriveVisitor,
     out: &mut S,
 ) -> Result<(), AllocError>
+    requires { HoldsKnown (on_trees trees.now IsKnownOf) visitor.old }
     ensures { SendsVisits result (S.writes out.old out.new) trees.now visitor.old
         (λ c report visits. plan_commands c report 0 visits
         ++ EditorCommand.CloseDirectory (token_of DirectoryKind 0) ∷ []) }
@@ -76,9 +77,10 @@ fn say_below<R: Repository, S: ReplySink>(
 fn say_body<R: Repository, S: ReplySink>(
     alloc: Global,
     trees: &TwoTrees<R>,
-    visitor: &mut Visitor,
+    visitor: &mut DriveVisitor,
     out: &mut S,
 ) -> Result<(), AllocError>
+    requires { HoldsKnown (on_trees trees.now IsKnownOf) visitor.old }
     ensures { SendsVisits result (S.writes out.old out.new) trees.now visitor.old body_commands }
 {
     say_root(alloc, trees, out)?;
@@ -89,9 +91,10 @@ fn say_body<R: Repository, S: ReplySink>(
 fn say_rest<R: Repository, S: ReplySink>(
     alloc: Global,
     trees: &TwoTrees<R>,
-    visitor: &mut Visitor,
+    visitor: &mut DriveVisitor,
     out: &mut S,
 ) -> Result<(), AllocError>
+    requires { HoldsKnown (on_trees trees.now IsKnownOf) visitor.old }
     ensures { SendsVisits result (S.writes out.old out.new) trees.now visitor.old
         (λ c report visits. body_commands c report visits ++ EditorCommand.CloseEdit ∷ []) }
 {
@@ -103,9 +106,10 @@ fn say_rest<R: Repository, S: ReplySink>(
 fn say_commands<R: Repository, S: ReplySink>(
     alloc: Global,
     trees: &TwoTrees<R>,
-    visitor: &mut Visitor,
+    visitor: &mut DriveVisitor,
     out: &mut S,
 ) -> Result<(), AllocError>
+    requires { HoldsKnown (on_trees trees.now IsKnownOf) visitor.old }
     ensures { SendsVisits result (S.writes out.old out.new) trees.now visitor.old drive_of }
 {
     say_beginning(alloc, trees.report.ask.revision, trees.root, out)?;
@@ -116,9 +120,10 @@ fn say_commands<R: Repository, S: ReplySink>(
 fn say_planned<R: Repository, S: ReplySink>(
     alloc: Global,
     trees: &TwoTrees<R>,
-    visitor: &mut Visitor,
+    visitor: &mut DriveVisitor,
     out: &mut S,
 ) -> Result<(), AllocError>
+    requires { HoldsKnown (on_trees trees.now IsKnownOf) visitor.old }
     ensures { Visiting (on_trees trees.now drive_trees) visitor.old
         (λ visits. Says result (S.writes out.old out.new)
         (drive_replies (on_trees trees.now drive_of visits))) }

@@ -1,8 +1,8 @@
 //! The commands of visits. Where one of these fails, a part of what it says was written.
 ghost use Rattle.std.specs.Prelude.{◌≡◌, ◌<◌, ◌+◌, ◌^◌, ◌∷◌, [], false};
 ghost use Rattle.drive_rules.specs.Steps.EntryKind.{DirectoryKind};
-ghost use Rattle.reporter.specs.Visits.{kind_if};
-ghost use Rattle.drive_sides.specs.OnTrees.{on_trees};
+ghost use Rattle.reporter.specs.{Knowing.HoldsKnown, Visits.kind_if};
+ghost use Rattle.drive_sides.specs.{Known.IsKnownOf, OnTrees.on_trees};
 ghost use Rattle.drive_sending.specs.Commands.{add_command, added_entry, around_after, deeper_by, deleted_entry, news_told, open_command, opened_entry};
 ghost use Rattle.drive_sending.specs.{Commands.{plan_commands, visit_commands}, Driving.{Sends, SendsVisits}, Tokens.token_of};
 ghost use Rattle.wire_replies.specs.Made.{Makes};
@@ -11,9 +11,9 @@ use crate::naming::{relative_text, token};
 use crate::saying::say_made;
 use crate::telling::{Entrance, or_no_news, say_news};
 use drive_news::News;
-use drive_sides::TwoTrees;
+use drive_sides::{DriveVisitor, TwoTrees};
 use repo_api::Repository;
-use reporter::{Visit, Visitor};
+use reporter::Visit;
 use std::alloc::{AllocError, Global};
 use svnpath::Path;
 use wire_edits::{AddedEntry, DeletedEntry, EditorCommand, OpenedEntry};
@@ -237,9 +237,10 @@ fn say_next<R: Repository, S: ReplySink>(
 pub(crate) fn say_visits<R: Repository, S: ReplySink>(
     alloc: Global,
     trees: &TwoTrees<R>,
-    visitor: &mut Visitor,
+    visitor: &mut DriveVisitor,
     out: &mut S,
 ) -> Result<(), AllocError>
+    requires { HoldsKnown (on_trees trees.now IsKnownOf) visitor.old }
     ensures { SendsVisits result (S.writes out.old out.new) trees.now visitor.old
         (λ c report. plan_commands c report 0) }
 {

@@ -7,7 +7,7 @@ use Rattle.drive_rules.proofs.Joined.{and_front}
 use Rattle.drive_rules.specs.declared.depth.Depth.{Depth}
 use Rattle.drive_rules.specs.Scopes.{depth_below, depth_said, DepthLimit, hides_nothing, includes, own_or_inherited, scope_of, stays_in_scope, top_limit}
 use Rattle.drive_rules.specs.declared.depth.Depth.TheVariants.{Empty, Files, Immediates, Infinity}
-use Rattle.drive_reports.specs.{Reported.{ReportedTree, reported_entries}, Targets.{WholeReport, client_tree, drive_limit, drive_scope, limit_of, target_tree}}
+use Rattle.drive_reports.specs.{Reported.{ReportedTree, reported_entries}, Targets.{WholeReport, client_tree, drive_limit, drive_scope, limit_of, target_entries}}
 use Rattle.drive_reports.specs.declared.ask.DepthAsked.{DepthAsked}
 use Rattle.drive_reports.specs.declared.ask.DepthAsked.TheVariants as asks
 use Rattle.drive_sides.specs.Depths.{depth_at, depth_down, reach_of, Reaches}
@@ -80,7 +80,7 @@ reaches c report p depth up is = by depth report.ask.depth is refl
     old = reported_entries had
 
     new : Tree
-    new = target_tree c report.ask
+    new = target_entries c report
 
     top : PathValue
     top = report.ask.target

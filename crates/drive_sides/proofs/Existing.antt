@@ -17,7 +17,7 @@ use Rattle.reporter.proofs.{Children.{AreDistinct, children_all, children_are}, 
 use Rattle.reporter.specs.{Left.IsLeft, Visiting.MayVisit, Walks.IsListed, declared.visit.Visit.Visit, declared.visitor.Visitor.Visitor}
 use Rattle.drive_reports.proofs.Holding.{comparable}
 use Rattle.drive_reports.specs.Reported.{ReportedTree, has_place, in_graft, in_subtree, left_by, reported_as, with_graft}
-use Rattle.drive_reports.specs.{Targets.{WholeReport, goal_path, new_tree, old_tree, stale_in}, declared.graft.Graft.Graft, declared.graft.Subtree.Subtree}
+use Rattle.drive_reports.specs.{Aims.aim_at, Targets.{WholeReport, new_tree, old_tree, stale_in}, declared.graft.Graft.Graft, declared.graft.Subtree.Subtree}
 use Rattle.drive_sides.proofs.{Listing.{among_over, among_target, above_child, in_new, in_old, under_target}, Naming.among_there}
 use Rattle.drive_sides.specs.{BoundLaws.new_is_shorter, Bounds.path_bound, LeadLaws.news_leads, Names.{children_of, graft_names, is_name_among}}
 use Rattle.drive_sides.specs.Plans.{drive_trees}
@@ -193,33 +193,35 @@ grafts_named s top p had (g ∷ gs) c some =
 -- ---- both sides
 
 abbrev names_of : RepoState → WholeReport → PathValue → List Component
-names_of c report p = distinct (names_by_all c p report.grafts ++ names_at c report.ask.revision (goal_path report.ask p))
+names_of c report p = distinct (names_by_all c p report.grafts ++ names_at c report.ask.revision (aim_at c report p).from)
 
 old_name : (c : RepoState) (report : WholeReport) (p : PathValue) (x : Component) → IsSome (old_tree c report (p ++ x ∷ [])) → is_name_among (names_of c report p) x ≡ true
 old_name c report p x some =
-    distinct_same (names_by_all c p report.grafts ++ names_at c report.ask.revision (goal_path report.ask p)) x
-    ∙ among_front (names_by_all c p report.grafts) (names_at c report.ask.revision (goal_path report.ask p)) x
+    distinct_same (names_by_all c p report.grafts ++ names_at c report.ask.revision (aim_at c report p).from) x
+    ∙ among_front (names_by_all c p report.grafts) (names_at c report.ask.revision (aim_at c report p).from) x
     (⊎_elim (λ h. absurd (false≢true h)) (λ h. h) (grafts_named c report.ask.target p (λ _. None) report.grafts x (in_old c report (p ++ x ∷ []) some)))
 
 new_name : (c : RepoState) (report : WholeReport) (p : PathValue) (x : Component) → is_some (new_tree c report p) ≡ true → IsSome (new_tree c report (p ++ x ∷ [])) → is_name_among (names_of c report p) x ≡ true
 new_name c report p x here some =
-    distinct_same (names_by_all c p report.grafts ++ names_at c report.ask.revision (goal_path report.ask p)) x
-    ∙ among_behind (names_by_all c p report.grafts) (names_at c report.ask.revision (goal_path report.ask p)) x
-    (among_target c report.ask p x (under_target c report.ask p (in_new c report p here)) (in_new c report (p ++ x ∷ []) some))
+    distinct_same (names_by_all c p report.grafts ++ names_at c report.ask.revision (aim_at c report p).from) x
+    ∙ ⊎_elim (λ there. among_behind (names_by_all c p report.grafts) (names_at c report.ask.revision (aim_at c report p).from) x there)
+    (λ had. among_front (names_by_all c p report.grafts) (names_at c report.ask.revision (aim_at c report p).from) x
+    (⊎_elim (λ h. absurd (false≢true h)) (λ h. h) (grafts_named c report.ask.target p (λ _. None) report.grafts x had)))
+    (among_target c report p x (under_target c report p (in_new c report p here)) (in_new c report (p ++ x ∷ []) some))
 
 listed : (c : RepoState) (report : WholeReport) (p : PathValue) → (xs : List PathValue) × IsListed (drive_trees c report) p xs
 listed c report p = (
   children_of p (names_of c report p),
   record {
-    children = children_are p (names_of c report p) (distinct_once (names_by_all c p report.grafts ++ names_at c report.ask.revision (goal_path report.ask p)));
+    children = children_are p (names_of c report p) (distinct_once (names_by_all c p report.grafts ++ names_at c report.ask.revision (aim_at c report p).from));
     all_old = λ holds. children_all (old_tree c report) p (names_of c report p) holds (old_name c report p);
     all_new = λ holds. children_all (new_tree c report) p (names_of c report p) holds (λ x some. new_name c report p x (above_child (new_tree c report) p x holds some) some);
   },
 )
 
 -- whatever is left of a drive, it can be visited
-pub some_visits : (c : RepoState) (report : WholeReport) (visitor : Visitor) → (visits : List Visit) × MayVisit (drive_trees c report) visitor visits
+pub some_visits : {K : Type 0} (c : RepoState) (report : WholeReport) (visitor : Visitor K) → (visits : List Visit) × MayVisit (drive_trees c report) visitor visits
 some_visits c report visitor =
     let some : (visits : List Visit) × IsLeft (drive_trees c report) visitor.open.items visits =
-    some_left (drive_trees c report) (path_bound c report.ask) (new_is_shorter c report) (news_leads c report) (decided c report) (listed c report) visitor.open.items in
+    some_left (drive_trees c report) (path_bound c report) (new_is_shorter c report) (news_leads c report) (decided c report) (listed c report) visitor.open.items in
     (some.0, λ so. some.1)

@@ -1,33 +1,32 @@
 -- That the names of what stands beneath a path are all.
 use Rattle.std.proofs.Common.{◌≡◌, arith, ℕ, ◌+◌, ◌<◌, Bool, true, false, cond, ◌&&◌, ◌||◌, List, [], ◌∷◌, ◌++◌, length, drop, Option, Some, None, Result, Ok}
-use Rattle.std.proofs.{Common.{Err, inl, inr, ⊎_elim, refl, sym, ap, ◌∙◌, subst, option_map}, lemmas.Bool.false≢true, lemmas.List.{append_assoc, append-nil, length-append}}
-use Rattle.std.specs.{List.list_any, Prelude.{IsTrue, IsSome, IsSomeAnd, IfOk, OnOk, is_some, option_copied}, FinMap.get}
-use Rattle.svnpath.specs.{PathLaws.{rest_append, same_component_refl, under_append, under_is}, Paths.{Component, is_at_or_under, PathValue}}
+use Rattle.std.proofs.{Common.{Err, ◌⊎◌, inl, inr, ⊎_elim, refl, sym, ap, ◌∙◌, subst, option_map}, lemmas.Bool.false≢true}
+use Rattle.std.proofs.lemmas.List.{append-nil, length-append}
+use Rattle.std.specs.{List.list_any, Prelude.{IsTrue, IsSome, IsSomeAnd, IfOk, OnOk, is_some}}
+use Rattle.svnpath.specs.{PathLaws.{same_component_refl, under_append, under_is}, Paths.{Component, is_at_or_under, PathValue}}
 use Rattle.repo_api.specs.{Readings.{name_in, names_at}, States.{RepoState, tree_at, trees_in}, Trees.{is_directory, Tree}, declared.entry.Entry.Entry}
 use Rattle.drive_rules.proofs.{Joined.{or_left, or_right}, Entries.{no_length, under_more}}
 use Rattle.drive_rules.specs.{Scopes.{below, depth_below, HoldsTogether, within}, declared.depth.Depth.Depth}
 use Rattle.drive_rules.specs.declared.depth.Depth.TheVariants.{Empty, Files, Immediates, Infinity}
-use Rattle.drive_reports.proofs.Holding.{all_hold, below_longer, longer_below}
-use Rattle.drive_reports.specs.{Places.{AllHoldTogether, in_place, is_grafted_over, reported_subtree}, Reported.{ReportedEntry, left_by, reported_entries, reported_as}}
-use Rattle.drive_reports.specs.{Targets.{WholeReport, client_entries, client_tree, drive_scope, goal_path, new_tree, old_tree, target_tree}, declared.ask.DriveAsk.DriveAsk}
+use Rattle.drive_reports.proofs.{Aiming.named_in, Holding.{all_hold, below_longer, longer_below}}
+use Rattle.drive_reports.specs.Places.{AllHoldTogether, in_place, is_grafted_over, reported_subtree}
+use Rattle.drive_reports.specs.Reported.{ReportedEntry, left_by, reported_entries, reported_as}
+use Rattle.drive_reports.specs.{Aims.aim_at, Targets.{WholeReport, client_entries, client_tree, drive_scope, new_tree, old_tree, target_entries}}
 use Rattle.drive_reports.specs.{declared.graft.Graft.Graft, declared.reported.ReportedPlace.ReportedPlace}
-use Rattle.drive_sides.specs.{Depths.IsAlone, Names.{is_name_among, graft_names, NameNew}}
+use Rattle.drive_sides.specs.{Depths.IsAlone, Names.{is_name_among, graft_names, NameNew, NameTarget}}
 use Rattle.drive_sides.proofs.Naming.{among_there, among_grafts, is_named, name_of_child}
 
 -- ---- what is to stand there
 
-goal_child : (ask : DriveAsk) (p : PathValue) (c : Component) → is_at_or_under p ask.target ≡ true → goal_path ask (p ++ c ∷ []) ≡ goal_path ask p ++ c ∷ []
-goal_child ask p c up =
-    ap (λ r. ask.goal ++ r) (ap (drop (length ask.target)) (ap (λ q. q ++ c ∷ []) (under_is p ask.target up) ∙ append_assoc ask.target (drop (length ask.target) p) (c ∷ [])) ∙ rest_append ask.target (drop (length ask.target) p ++ c ∷ []))
-    ∙ sym (append_assoc ask.goal (drop (length ask.target) p) (c ∷ []))
-
--- a name that is to stand beneath a path is among those of its goal
-pub among_target : (s : RepoState) (ask : DriveAsk) (p : PathValue) (c : Component) → is_at_or_under p ask.target ≡ true → is_some (target_tree s ask (p ++ c ∷ [])) ≡ true → is_name_among (names_at s ask.revision (goal_path ask p)) c ≡ true
-among_target s ask p c up some = among_there (tree_at s ask.revision) (goal_path ask p) c (subst (λ q. IsSome (get (tree_at s ask.revision) q)) (goal_child ask p c up) (by (is_at_or_under (p ++ c ∷ []) ask.target) some))
+-- a name that is to stand beneath a path is among those of where the path is led, or the client has it
+pub among_target : (s : RepoState) (report : WholeReport) (p : PathValue) (c : Component) → is_at_or_under p report.ask.target ≡ true → is_some (target_entries s report (p ++ c ∷ [])) ≡ true
+    → (is_name_among (names_at s report.ask.revision (aim_at s report p).from) c ≡ true) ⊎ (is_some (client_tree s report (p ++ c ∷ [])) ≡ true)
+among_target s report p c up some =
+    ⊎_elim (λ there. inl (among_there (tree_at s report.ask.revision) (aim_at s report p).from c there)) inr (named_in s report p c up (led (is_at_or_under (p ++ c ∷ []) report.ask.target) some))
   where
-    by : (b : Bool) → is_some (cond b (trees_in s.revisions ask.revision (goal_path ask (p ++ c ∷ []))) None) ≡ true → IsSome (get (tree_at s ask.revision) (goal_path ask (p ++ c ∷ [])))
-    by true h = h
-    by false h = absurd (false≢true h)
+    led : (b : Bool) → is_some (cond b (aim_at s report (p ++ c ∷ [])).entry None) ≡ true → is_some (aim_at s report (p ++ c ∷ [])).entry ≡ true
+    led true h = h
+    led false h = absurd (false≢true h)
 
 -- ---- what the client has
 
@@ -46,7 +45,7 @@ placed_there : (trees : ℕ → Tree) (place : ReportedPlace) (c : Component) �
 placed_there trees place c h = by place.starts_empty h
   where
     shown : Entry → ReportedEntry
-    shown = reported_as (reported_subtree place.revision place.starts_empty place.depth (option_copied place.token)) (depth_below place.depth) None
+    shown = reported_as (reported_subtree place.revision place.starts_empty place.depth place.token) (depth_below place.depth) None
 
     by : (b : Bool) → is_some (cond b None (option_map shown (left_by place.depth [] (trees place.revision (place.path ++ c ∷ []))))) ≡ true → is_some (trees place.revision (place.path ++ c ∷ [])) ≡ true
     by true h = absurd (false≢true h)
@@ -107,17 +106,17 @@ in_old s report q some = by (drive_scope s report q) some
     by true h = mapped (λ (h : ReportedEntry). h.entry) (client_tree s report q) h
     by false h = absurd (false≢true h)
 
-pub in_new : (s : RepoState) (report : WholeReport) (q : PathValue) → is_some (new_tree s report q) ≡ true → is_some (target_tree s report.ask q) ≡ true
+pub in_new : (s : RepoState) (report : WholeReport) (q : PathValue) → is_some (new_tree s report q) ≡ true → is_some (target_entries s report q) ≡ true
 in_new s report q some = by (drive_scope s report q) some
   where
-    by : (b : Bool) → is_some (cond b (target_tree s report.ask q) None) ≡ true → is_some (target_tree s report.ask q) ≡ true
+    by : (b : Bool) → is_some (cond b (target_entries s report q) None) ≡ true → is_some (target_entries s report q) ≡ true
     by true h = h
     by false h = absurd (false≢true h)
 
-pub under_target : (s : RepoState) (ask : DriveAsk) (q : PathValue) → is_some (target_tree s ask q) ≡ true → is_at_or_under q ask.target ≡ true
-under_target s ask q some = by (is_at_or_under q ask.target) some
+pub under_target : (s : RepoState) (report : WholeReport) (q : PathValue) → is_some (target_entries s report q) ≡ true → is_at_or_under q report.ask.target ≡ true
+under_target s report q some = by (is_at_or_under q report.ask.target) some
   where
-    by : (b : Bool) → is_some (cond b (trees_in s.revisions ask.revision (goal_path ask q)) None) ≡ true → b ≡ true
+    by : (b : Bool) → is_some (cond b (aim_at s report q).entry None) ≡ true → b ≡ true
     by true h = refl
     by false h = absurd (false≢true h)
 
@@ -157,7 +156,7 @@ new_named s report p first mid after together named keeps adds grafts holds c so
     (λ had. by (is_grafted_over report.grafts p (p ++ c ∷ [])) refl had) (named c up some)
   where
     up : is_at_or_under p report.ask.target ≡ true
-    up = under_target s report.ask p (in_new s report p (above_child (new_tree s report) p c holds some))
+    up = under_target s report p (in_new s report p (above_child (new_tree s report) p c holds some))
 
     by : (b : Bool) → is_grafted_over report.grafts p (p ++ c ∷ []) ≡ b → is_some (client_tree s report (p ++ c ∷ [])) ≡ true → (is_name_among mid c || is_name_among (graft_names p report.grafts) c) ≡ true
     by true over had = or_right (is_name_among mid c) (is_name_among (graft_names p report.grafts) c) (among_over report.grafts p c over)
@@ -165,9 +164,9 @@ new_named s report p first mid after together named keeps adds grafts holds c so
 
 -- what is to stand in scope is named, where each name of the target is
 pub named_all : (s : RepoState) (report : WholeReport) (p : PathValue) (names : List Component)
-    → ((c : Component) → is_at_or_under p report.ask.target ≡ true → is_some (target_tree s report.ask (p ++ c ∷ [])) ≡ true → is_name_among names c ≡ true)
+    → NameTarget names s report p
     → NameNew names s report p
-named_all s report p names all c up some = inl (all c up (in_new s report (p ++ c ∷ []) some))
+named_all s report p names all c up some = all c up (in_new s report (p ++ c ∷ []) some)
 
 -- and it is had, where what is not had is out of scope
 pub had_all : (s : RepoState) (report : WholeReport) (p : PathValue) (names : List Component)
@@ -176,7 +175,7 @@ pub had_all : (s : RepoState) (report : WholeReport) (p : PathValue) (names : Li
 had_all s report p names had c up some =
     inr (mapped (λ (h : ReportedEntry). h.entry) (client_tree s report (p ++ c ∷ [])) (had c (by (drive_scope s report (p ++ c ∷ [])) some)))
   where
-    by : (b : Bool) → is_some (cond b (target_tree s report.ask (p ++ c ∷ [])) None) ≡ true → b ≡ true
+    by : (b : Bool) → is_some (cond b (target_entries s report (p ++ c ∷ [])) None) ≡ true → b ≡ true
     by true h = refl
     by false h = absurd (false≢true h)
 
@@ -190,7 +189,7 @@ pub none_in : (trees : ℕ → Tree) (place : ReportedPlace) (c : Component) →
 none_in trees place c alone some names = absurd (false≢true (sym (ap is_some (none alone)) ∙ some))
   where
     shown : Entry → ReportedEntry
-    shown = reported_as (reported_subtree place.revision place.starts_empty place.depth (option_copied place.token)) (depth_below place.depth) None
+    shown = reported_as (reported_subtree place.revision place.starts_empty place.depth place.token) (depth_below place.depth) None
 
     stood : Option Entry
     stood = trees place.revision (place.path ++ c ∷ [])

@@ -1,22 +1,21 @@
 -- The plan of a drive.
-use Rattle.std.proofs.Common.{◌≡◌, ◌==◌, ◌+◌, ◌++◌, not, option_map, Bool, true, false, cond, ◌&&◌, List, [], ◌∷◌, length, drop, Option, Some, None, Ok, refl}
-use Rattle.std.proofs.{Common.{sym, ap, ◌∙◌, subst, if◌then◌else◌}, lemmas.Bool.false≢true, lemmas.List.append-nil}
+use Rattle.std.proofs.Common.{◌≡◌, ◌==◌, ◌+◌, not, option_map, Bool, true, false, cond, ◌&&◌, List, [], ◌∷◌, length, Option, Some, None, Ok, refl}
+use Rattle.std.proofs.{Common.{sym, ap, ◌∙◌, subst}, lemmas.Bool.false≢true}
 use Rattle.drive_rules.proofs.Joined.{or_right}
 use Rattle.std.specs.Prelude.{ok_or, is_some, IsSomeAnd, IsTrue}
 use Rattle.svnpath.specs.{PathLaws.{same_path_is, same_path_refl}, Paths.{is_at_or_under, PathValue, same_path}}
 use Rattle.refusals.specs.declared.Refusal.TheVariants as refusals
-use Rattle.repo_api.specs.{Soundness.AreTrees, States.{RepoState, trees_in}, Trees.{is_directory, is_directory_there}, declared.entry.Entry.Entry}
-use Rattle.drive_rules.specs.{Places.is_in_directory, Drives.IsInBoth, Scopes.{below, depth_below, hides_nothing, scope_of, under}}
+use Rattle.repo_api.specs.{Soundness.AreTrees, States.{RepoState, trees_in}, Trees.{HasDirectory, is_directory, is_directory_there}, declared.entry.Entry.Entry}
+use Rattle.drive_rules.specs.{Places.is_in_directory, Drives.{IsInBoth, IsOfOneKind}, Scopes.{below, depth_below, hides_nothing, scope_of, under}}
 use Rattle.drive_wire.specs.Sent.{seen_by}
 use Rattle.drive_news.specs.News.{own_steps_of}
 use Rattle.reporter.specs.{Left.{IsRootPlan, IsTopPlan}, Nesting.AreNested, Visits.IsRightPlan, Walks.BothHold, declared.visit.Visit.Visit}
 use Rattle.reporter.specs.declared.visit.Visit.TheVariants.{Open}
-use Rattle.drive_reports.proofs.Drives.{both_hold}
+use Rattle.drive_reports.proofs.{Aiming.{apart_under, both_directories, one_kind, other_stays, root_entry, root_stays, stays_kind}, Drives.both_hold}
 use Rattle.drive_reports.specs.{Refusing.{OpenState, ◌>>=◌, ok_if, has_goal, has_anchor, finish_root}, Reported.{ReportedEntry, reported_entries}}
-use Rattle.drive_reports.specs.Targets.{WholeReport, client_tree, drive_scope, limit_of, target_tree, reported_tree, is_apart, old_tree, new_tree, stale_in}
+use Rattle.drive_reports.specs.{Aims.aim_at, Targets.{WholeReport, client_entries, client_tree, drive_scope, limit_of, reported_tree, is_apart, old_tree, new_tree, stale_in, target_entries}}
 use Rattle.drive_reports.specs.declared.report.ReportRoot.{ReportRoot}
 use Rattle.drive_reports.specs.Reported as reported
-use Rattle.small_rules.specs.GivingWay.{gives_way}
 use Rattle.drive_sides.specs.Plans.{IsPlan, drive_trees, whole}
 
 -- ---- what is known of a report that has come to its end
@@ -48,7 +47,7 @@ both_anchors c report root h top =
 -- the root stands on both sides where there is no target
 scope_root : (c : RepoState) (report : OpenState) (root : ReportRoot) → report.ask.target ≡ [] → drive_scope c (whole report root) [] ≡ true
 scope_root c report root is =
-    ap (λ (t : PathValue). scope_of hides_nothing depth_below (limit_of (client_tree c (whole report root)) root report.ask.depth) (reported_entries (client_tree c (whole report root))) (target_tree c report.ask) t []) is
+    ap (λ (t : PathValue). scope_of hides_nothing depth_below (limit_of (client_tree c (whole report root)) root report.ask.depth) (reported_entries (client_tree c (whole report root))) (target_entries c (whole report root)) t []) is
 
 same_root : (target : PathValue) → target ≡ [] → same_path target [] ≡ true
 same_root target is = ap (λ t. same_path t []) is
@@ -62,60 +61,111 @@ root_old c report root done is =
     ap (λ b. is_directory_there (cond b (reported_entries (client_tree c (whole report root)) []) None)) (scope_root c report root is)
     ∙ of_entries (client_tree c (whole report root) []) (and_second (is_directory_there (trees_in c.revisions report.ask.revision report.ask.goal)) (reported.has_directory (reported_tree c report.ask report.grafts [])) (both_anchors c report root done (same_root report.ask.target is)))
 
+root_led : (c : RepoState) (report : OpenState) (root : ReportRoot) → finish_root c report ≡ Ok root → report.ask.target ≡ [] → is_directory_there (aim_at c (whole report root) []).entry ≡ true
+root_led c report root done is =
+    ap is_directory_there (root_entry c (whole report root) is)
+    ∙ and_first (is_directory_there (trees_in c.revisions report.ask.revision report.ask.goal)) (reported.has_directory (reported_tree c report.ask report.grafts [])) (both_anchors c report root done (same_root report.ask.target is))
+
 pub root_new : (c : RepoState) (report : OpenState) (root : ReportRoot) → finish_root c report ≡ Ok root → report.ask.target ≡ [] → is_directory_there (new_tree c (whole report root) []) ≡ true
 root_new c report root done is =
-    ap (λ b. is_directory_there (cond b (target_tree c report.ask []) None)) (scope_root c report root is)
-    ∙ ap (λ (t : PathValue). is_directory_there (cond (is_at_or_under [] t) (trees_in c.revisions report.ask.revision (report.ask.goal ++ drop (length t) [])) None)) is
-    ∙ ap (λ p. is_directory_there (trees_in c.revisions report.ask.revision p)) (append-nil report.ask.goal)
-    ∙ and_first (is_directory_there (trees_in c.revisions report.ask.revision report.ask.goal)) (reported.has_directory (reported_tree c report.ask report.grafts [])) (both_anchors c report root done (same_root report.ask.target is))
+    ap (λ b. is_directory_there (cond b (target_entries c (whole report root) []) None)) (scope_root c report root is)
+    ∙ ap (λ b. is_directory_there (cond b (aim_at c (whole report root) []).entry None)) (ap (is_at_or_under []) is)
+    ∙ root_led c report root done is
 
 pub directory_of : (o : Option Entry) → is_directory_there o ≡ true → IsSomeAnd o (λ e. IsTrue (is_directory e))
 directory_of None h = absurd (false≢true h)
 directory_of (Some e) h = h
+
+and_nothing : (b : Bool) → (b && false) ≡ false
+and_nothing true = refl
+and_nothing false = refl
+
+-- the root stays where there is no target
+pub root_kept : (c : RepoState) (report : OpenState) (root : ReportRoot) → finish_root c report ≡ Ok root → report.ask.target ≡ [] → is_apart c (whole report root) [] ≡ false
+root_kept c report root done is =
+    ap (λ s. is_some (old_tree c (whole report root) []) && not s) (root_stays c (whole report root) is (directory_of (client_entries c (whole report root) []) had) (directory_of (aim_at c (whole report root) []).entry (root_led c report root done is)))
+    ∙ and_nothing (is_some (old_tree c (whole report root) []))
+  where
+    had : is_directory_there (client_entries c (whole report root) []) ≡ true
+    had =
+        of_entries (client_tree c (whole report root) [])
+        (and_second (is_directory_there (trees_in c.revisions report.ask.revision report.ask.goal)) (reported.has_directory (reported_tree c report.ask report.grafts [])) (both_anchors c report root done (same_root report.ask.target is)))
 
 -- ---- plans
 
 abbrev pub IsRightFor : RepoState → WholeReport → PathValue → List Visit → Type 0
 IsRightFor c report top visits = IsRightPlan (seen_by report.ask.purpose) (under top) (stale_in c report) (is_apart c report) (old_tree c report) (new_tree c report) (own_steps_of c report) visits
 
--- a directory on both sides stays
-pub both_stay : (o n : Option Entry) → IsSomeAnd o (λ e. IsTrue (is_directory e)) → IsSomeAnd n (λ e. IsTrue (is_directory e)) → gives_way o n ≡ false
-both_stay None n h k = refl
-both_stay (Some x) None h k = absurd k
-both_stay (Some x) (Some y) h k = bools (is_directory x) (is_directory y) h k
-  where
-    bools : (a b : Bool) → a ≡ true → b ≡ true → (if a then not b else b) ≡ false
-    bools true true e f = refl
-    bools true false e f = absurd (false≢true f)
-    bools false b e f = absurd (false≢true e)
+-- what is in scope is there
+scoped : (b : Bool) (o : Option Entry) → is_some (cond b o None) ≡ true → b ≡ true
+scoped true o h = refl
+scoped false o h = absurd (false≢true h)
 
--- what stays on both sides is of one kind
-one_kind : (o n : Option Entry) → is_some o ≡ true → is_some n ≡ true → gives_way o n ≡ false → IsSomeAnd o (λ e. IsSomeAnd n (λ f. is_directory e ≡ is_directory f))
-one_kind None n a b s = absurd (false≢true a)
-one_kind (Some x) None a b s = absurd (false≢true b)
-one_kind (Some x) (Some y) a b s = bools (is_directory x) (is_directory y) s
+still : (a b : Bool) → a ≡ true → (a && not b) ≡ false → b ≡ true
+still a true h k = refl
+still true false h k = absurd (false≢true (sym k))
+still false false h k = absurd (false≢true h)
+
+gone : (a b : Bool) → (a && not b) ≡ true → (a ≡ true) × (b ≡ false)
+gone true true h = absurd (false≢true h)
+gone true false h = (refl, refl)
+gone false b h = absurd (false≢true h)
+
+-- what is had in scope, and what is to be
+old_is : (c : RepoState) (report : WholeReport) (q : PathValue) → drive_scope c report q ≡ true → old_tree c report q ≡ client_entries c report q
+old_is c report q scope = ap (λ b. cond b (client_entries c report q) None) scope
+
+new_is : (c : RepoState) (report : WholeReport) (q : PathValue) → drive_scope c report q ≡ true → is_at_or_under q report.ask.target ≡ true → new_tree c report q ≡ (aim_at c report q).entry
+new_is c report q scope at =
+    ap (λ b. cond b (target_entries c report q) None) scope ∙ ap (λ b. cond b (aim_at c report q).entry None) at
+
+-- what is on both sides and is not apart keeps its kind
+kept_kind : (c : RepoState) (report : WholeReport) (q : PathValue) → is_at_or_under q report.ask.target ≡ true → IsInBoth (old_tree c report) (new_tree c report) q → is_apart c report q ≡ false
+    → IsOfOneKind (old_tree c report) (new_tree c report) q
+kept_kind c report q at both stays =
+    subst (λ o. IsSomeAnd o (λ e. IsSomeAnd (new_tree c report q) (λ f. is_directory e ≡ is_directory f))) (sym (old_is c report q scope))
+    (subst (λ n. IsSomeAnd (client_entries c report q) (λ e. IsSomeAnd n (λ f. is_directory e ≡ is_directory f))) (sym (new_is c report q scope at))
+    (one_kind (client_entries c report q) (aim_at c report q).entry
+    (stays_kind c report q at (still (is_some (old_tree c report q)) (aim_at c report q).stays both.0 stays))))
   where
-    bools : (a b : Bool) → (if a then not b else b) ≡ false → a ≡ b
-    bools true true h = refl
-    bools true false h = absurd (false≢true (sym h))
-    bools false true h = absurd (false≢true (sym h))
-    bools false false h = refl
+    scope : drive_scope c report q ≡ true
+    scope = scoped (drive_scope c report q) (client_entries c report q) both.0
+
+-- what is on both sides beneath what is apart is apart
+apart_too : (c : RepoState) (report : WholeReport) (q x : PathValue) → AreTrees c.revisions → is_at_or_under q report.ask.target ≡ true → is_apart c report q ≡ true → is_at_or_under x q ≡ true
+    → IsInBoth (old_tree c report) (new_tree c report) x → (aim_at c report x).stays ≡ false
+apart_too c report q x trees at apart up both = by report.ask.is_of_today refl (same_path q x) refl
+  where
+    goes : (is_some (old_tree c report q) ≡ true) × ((aim_at c report q).stays ≡ false)
+    goes = gone (is_some (old_tree c report q)) (aim_at c report q).stays apart
+
+    scope : drive_scope c report q ≡ true
+    scope = scoped (drive_scope c report q) (client_entries c report q) goes.0
+
+    -- a directory on both sides stays
+    stays : report.ask.is_of_today ≡ false → HasDirectory (old_tree c report) q → HasDirectory (new_tree c report) q → (aim_at c report q).stays ≡ true
+    stays other old new =
+        other_stays c report q other
+        ∙ both_directories (client_entries c report q) (aim_at c report q).entry (subst (λ o. IsSomeAnd o (λ e. IsTrue (is_directory e))) (old_is c report q scope) old)
+        (subst (λ o. IsSomeAnd o (λ e. IsTrue (is_directory e))) (new_is c report q scope at) new)
+
+    by : (today : Bool) → report.ask.is_of_today ≡ today → (b : Bool) → same_path q x ≡ b → (aim_at c report x).stays ≡ false
+    by true today b same = apart_under c report q x today at up goes.1
+    by false other true same = subst (λ y. (aim_at c report y).stays ≡ false) (same_path_is q x same) goes.1
+    by false other false same =
+        absurd (false≢true (sym goes.1 ∙ stays other ((both_hold c report trees).0 q x at low both.0) ((both_hold c report trees).1 q x at low both.1)))
+      where
+        low : below q x ≡ true
+        low = ap (λ b. b && not (same_path q x)) up ∙ ap (λ b. true && not b) same
 
 pub both_sides : (c : RepoState) (report : WholeReport) → AreTrees c.revisions → BothHold (is_apart c report) (old_tree c report) (new_tree c report) report.ask.target
 both_sides c report trees = record {
   old_holds = (both_hold c report trees).0;
   new_holds = (both_hold c report trees).1;
-  of_one_kind = λ q at both stays. one_kind (old_tree c report q) (new_tree c report q) both.0 both.1 stays;
-  all_apart = λ q x at a up both. by q x at a up both (same_path q x) refl;
+  of_one_kind = λ q at both stays. kept_kind c report q at both stays;
+  all_apart = λ q x at a up both.
+      ap (λ b. b && not (aim_at c report x).stays) both.0 ∙ ap (λ b. true && not b) (apart_too c report q x trees at a up both);
 }
-  where
-    by : (q x : PathValue) → is_at_or_under q report.ask.target ≡ true → is_apart c report q ≡ true → is_at_or_under x q ≡ true → IsInBoth (old_tree c report) (new_tree c report) x → (b : Bool) → same_path q x ≡ b → is_apart c report x ≡ true
-    by q x at a up both true same = subst (λ y. is_apart c report y ≡ true) (same_path_is q x same) a
-    by q x at a up both false other =
-        absurd (false≢true (sym (both_stay (old_tree c report q) (new_tree c report q) ((both_hold c report trees).0 q x at low both.0) ((both_hold c report trees).1 q x at low both.1)) ∙ a))
-      where
-        low : below q x ≡ true
-        low = ap (λ b. b && not (same_path q x)) up ∙ ap (λ b. true && not b) other
 
 -- of the whole tree
 pub root_plan : (c : RepoState) (report : WholeReport) (visits : List Visit) → AreTrees c.revisions → report.ask.target ≡ [] → IsRootPlan (drive_trees c report) visits → IsPlan c report visits

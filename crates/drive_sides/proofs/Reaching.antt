@@ -9,7 +9,7 @@ use Rattle.drive_rules.specs.{Scopes.DepthLimit.{Given, Reported}, declared.dept
 use Rattle.std.specs.{Prelude.{Option, Some, None, cond, fold, option_map, option_and_then}, List.list_any, Option.option_map_or}
 use Rattle.drive_reports.specs.Reported.{ReportedEntry, ReportedTree, reported_entries, reported_as, top_entry, left_by, in_subtree, in_graft, with_graft}
 use Rattle.drive_reports.specs.{Reported.{has_place, has_directory}, declared.graft.Graft.Graft, declared.graft.Subtree.Subtree}
-use Rattle.drive_reports.specs.{Targets.{WholeReport, client_tree, drive_scope, limit_of, reported_depth, target_tree}, Depths.{is_shallow, is_to_the_end}}
+use Rattle.drive_reports.specs.{Targets.{WholeReport, client_tree, drive_scope, limit_of, reported_depth, target_entries}, Depths.{is_shallow, is_to_the_end}}
 use Rattle.drive_sides.specs.Depths.{FollowsWholeReport}
 use Rattle.drive_rules.proofs.Joined.{or_false}
 use Rattle.drive_reports.specs.declared.ask.DepthAsked.TheVariants as asks
@@ -71,8 +71,8 @@ ends limit old new top q here depth names i up far le =
 
 pub whole_scope : (c : RepoState) (report : WholeReport) (q : PathValue) → report.ask.depth ≡ asks.Given Infinity → is_at_or_under q report.ask.target ≡ true → true ≡ drive_scope c report q
 whole_scope c report q is up =
-    sym (ap (λ d. scope_of hides_nothing depth_below (limit_of (client_tree c report) report.root d) (reported_entries (client_tree c report)) (target_tree c report.ask) report.ask.target q) is
-    ∙ all_in_scope (reported_entries (client_tree c report)) (target_tree c report.ask) report.ask.target q up)
+    sym (ap (λ d. scope_of hides_nothing depth_below (limit_of (client_tree c report) report.root d) (reported_entries (client_tree c report)) (target_entries c report) report.ask.target q) is
+    ∙ all_in_scope (reported_entries (client_tree c report)) (target_entries c report) report.ask.target q up)
 
 -- ---- as deep as was reported, where everything was reported
 
@@ -177,7 +177,7 @@ whole_as_reported c report q follows up =
     old = reported_entries had
 
     new : Tree
-    new = target_tree c report.ask
+    new = target_entries c report
 
     top : PathValue
     top = report.ask.target

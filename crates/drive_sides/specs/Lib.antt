@@ -1,6 +1,7 @@
 pub mod BoundLaws
 pub mod Bounds
 pub mod Depths
+pub mod Known
 pub mod LeadLaws
 pub mod Names
 pub mod OnTrees

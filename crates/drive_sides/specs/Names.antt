@@ -2,8 +2,7 @@
 use Rattle.std.specs.{Prelude.{◌≡◌, ◌⊎◌, ◌||◌, Bool, true, false, List, [], ◌∷◌, ◌++◌, is_some, map}, List.list_any}
 use Rattle.svnpath.specs.Paths.{Component, is_at_or_under, PathValue, same_component}
 use Rattle.repo_api.specs.{Readings.names_among, States.RepoState}
-use Rattle.drive_reports.specs.Targets.{WholeReport, client_tree, new_tree}
-use Rattle.drive_reports.specs.declared.graft.Graft.{Graft}
+use Rattle.drive_reports.specs.{Targets.{WholeReport, client_tree, new_tree, target_entries}, declared.graft.Graft.Graft}
 
 -- the name is one of these
 abbrev pub is_name_among : List Component → Component → Bool
@@ -26,6 +25,14 @@ graft_names p grafts = names_among p (map (λ g. g.path) grafts)
 -- the paths of these names beneath a path
 abbrev pub children_of : PathValue → List Component → List PathValue
 children_of p names = map (λ c. p ++ c ∷ []) names
+
+-- each child of a directory that is to stand there, in scope or not, has one of these names, or the
+-- client has it already
+abbrev pub NameTarget : List Component → RepoState → WholeReport → PathValue → Type 0
+NameTarget names c report p =
+    (x : Component) → is_at_or_under p report.ask.target ≡ true
+    → is_some (target_entries c report (p ++ x ∷ [])) ≡ true
+    → (is_name_among names x ≡ true) ⊎ (is_some (client_tree c report (p ++ x ∷ [])) ≡ true)
 
 -- each child of a directory that the client is to have has one of these names, or the client has it
 -- already

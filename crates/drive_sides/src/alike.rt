@@ -1,5 +1,5 @@
 //! What a client has whole, and what it has alone.
-ghost use Rattle.std.specs.Prelude.{◌≡◌, true, None, option_copied};
+ghost use Rattle.std.specs.Prelude.{◌≡◌, true, None};
 ghost use Rattle.repo_api.specs.Readings.{IsSameAt};
 ghost use Rattle.drive_sides.specs.Depths.{IsAlone, IsWhole};
 
@@ -9,7 +9,7 @@ use repo_api::Repository;
 use svnpath::Path;
 
 /// Says whether a client has all that exists at a place and beneath it.
-pub(crate) fn is_whole(place: &ReportedPlace<'_>) -> bool
+pub(crate) fn is_whole(place: &ReportedPlace) -> bool
     ensures { result ≡ true → IsWhole place.now }
 {
     if place.starts_empty {
@@ -24,7 +24,7 @@ pub(crate) fn is_whole(place: &ReportedPlace<'_>) -> bool
 }
 
 /// Says whether a client has nothing of what exists beneath a place.
-pub(crate) fn is_alone(place: &ReportedPlace<'_>) -> bool
+pub(crate) fn is_alone(place: &ReportedPlace) -> bool
     ensures { result ≡ true → IsAlone place.now }
 {
     if place.starts_empty {
@@ -42,11 +42,11 @@ pub(crate) fn is_alone(place: &ReportedPlace<'_>) -> bool
 /// revision and beneath it.
 pub(crate) fn has_same<R: Repository>(
     view: &R,
-    place: &ReportedPlace<'_>,
+    place: &ReportedPlace,
     revision: u64,
     path: &Path,
 ) -> bool
-    ensures { result ≡ true → IsWhole place.now × (option_copied place.now.token ≡ None)
+    ensures { result ≡ true → IsWhole place.now × (place.now.token ≡ None)
         × IsSameAt (R.content view.now) place.now.revision place.now.path revision path.now }
 {
     is_whole(place)

@@ -2,6 +2,8 @@
 #![tactic(auto)]
 
 mod alike;
+mod known;
+mod leading;
 mod names;
 mod pairs;
 mod planning;
@@ -12,5 +14,6 @@ mod telling;
 mod two_trees;
 mod views;
 
+pub use known::{DriveKnown, DrivePlace, DriveVisitor};
 pub use planning::visitor;
 pub use two_trees::TwoTrees;

@@ -33,7 +33,7 @@ pub(crate) fn put_names<R: Repository>(
 /// Puts the names of what a client has straight beneath a place among others.
 pub(crate) fn put_place_names<R: Repository>(
     view: &R,
-    place: &ReportedPlace<'_>,
+    place: &ReportedPlace,
     names: &mut BTreeSet<ByteString>,
 ) -> Result<(), AllocError>
     ensures keeps { OnOk result ((c : Component) → is_name_among names.old.keys c ≡ true

@@ -1,47 +1,41 @@
 //! The pairs of entries of a drive, of which everything is had and asked for.
-ghost use Rattle.std.specs.Prelude.{◌≡◌, true, None, IfOk, IfSome, option_copied};
+ghost use Rattle.std.specs.Prelude.{◌≡◌, true, None, IfSome};
 ghost use Rattle.repo_api.specs.Readings.{IsSameAt};
-ghost use Rattle.drive_sides.specs.{Depths.IsWhole, OnTrees.on_trees, Pairs.IsPairAt};
+ghost use Rattle.reporter.specs.Knowing.{IsKnown};
+ghost use Rattle.drive_sides.specs.{Depths.IsWhole, Known.IsKnownOf, OnTrees.on_trees, Pairs.IsPairAt};
 
 use crate::alike::is_whole;
+use crate::known::DrivePlace;
 use crate::two_trees::TwoTrees;
 use drive_reports::ReportedPlace;
 use repo_api::Repository;
-use std::alloc::{AllocError, Global};
 use svnpath::Path;
 
 /// Where the two entries of a path of a drive are, of which everything is had and asked for: one at a path of a revision, the
 /// other at a path of the revision that is asked for.
-#[derive(Drop)]
-pub struct EntryPair {
+#[derive(Clone, Copy)]
+pub struct EntryPair<'p> {
     pub(crate) revision: u64,
-    pub(crate) old: Path,
-    pub(crate) new: Path,
+    pub(crate) old: &'p Path,
+    pub(crate) new: &'p Path,
 }
 
 /// Makes the pair of what a client has whole, with no token, and what it is to have at the goal.
-fn pair_of(place: ReportedPlace<'_>, goal: Path) -> Option<EntryPair>
-    ensures whole { IfSome result (λ pair. IsWhole place.entry
-        × (option_copied place.entry.token ≡ None)) }
-    ensures is { IfSome result (λ pair. (pair.revision ≡ place.entry.revision)
-        × (pair.old ≡ place.entry.path) × (pair.new ≡ goal)) }
+fn pair_of<'p>(place: &'p ReportedPlace, goal: &'p Path) -> Option<EntryPair<'p>>
+    ensures whole { IfSome result (λ pair. IsWhole place.now
+        × (place.now.token ≡ None)) }
+    ensures is { IfSome result (λ pair. (pair.revision ≡ place.now.revision)
+        × (pair.old.now ≡ place.now.path) × (pair.new.now ≡ goal.now)) }
 {
-    if !is_whole(&place) {
+    if !is_whole(place) {
         return None;
     }
     if place.token.is_some() {
         return None;
     }
-    let ReportedPlace {
-        revision,
-        path,
-        starts_empty: _,
-        depth: _,
-        token: _,
-    } = place;
     Some(EntryPair {
-        revision,
-        old: path,
+        revision: place.revision,
+        old: &place.path,
         new: goal,
     })
 }
@@ -50,15 +44,15 @@ fn pair_of(place: ReportedPlace<'_>, goal: Path) -> Option<EntryPair>
 pub(crate) fn are_same<R: Repository>(
     view: &R,
     revision: u64,
-    one: &EntryPair,
-    two: &EntryPair,
+    one: EntryPair<'_>,
+    two: EntryPair<'_>,
 ) -> bool
     ensures { result ≡ true
-        → IsSameAt (R.content view.now) one.now.revision one.now.old two.now.revision two.now.old
-        × IsSameAt (R.content view.now) revision one.now.new revision two.now.new }
+        → IsSameAt (R.content view.now) one.entry.revision one.entry.old.now two.entry.revision two.entry.old.now
+        × IsSameAt (R.content view.now) revision one.entry.new.now revision two.entry.new.now }
 {
-    view.is_same(one.revision, &one.old, two.revision, &two.old)
-        && view.is_same(revision, &one.new, revision, &two.new)
+    view.is_same(one.revision, one.old, two.revision, two.old)
+        && view.is_same(revision, one.new, revision, two.new)
 }
 
 /// Mixes a further number into a key.
@@ -67,9 +61,9 @@ fn mixed(key: u64, number: u64) -> u64 {
 }
 
 /// Gives a number by which a pair is looked up, by what is told of its entries: their last changes and their name.
-pub(crate) fn key_of<R: Repository>(view: &R, revision: u64, pair: &EntryPair) -> u64 {
-    let old = view.created(pair.revision, &pair.old).unwrap_or(0);
-    let new = view.created(revision, &pair.new).unwrap_or(0);
+pub(crate) fn key_of<R: Repository>(view: &R, revision: u64, pair: EntryPair<'_>) -> u64 {
+    let old = view.created(pair.revision, pair.old).unwrap_or(0);
+    let new = view.created(revision, pair.new).unwrap_or(0);
     let mut key = mixed(old, new);
     if let Some(name) = pair.old.components().last() {
         for byte in name.as_slice() {
@@ -80,28 +74,24 @@ pub(crate) fn key_of<R: Repository>(view: &R, revision: u64, pair: &EntryPair) -
 }
 
 impl<'a, R: Repository> TwoTrees<'a, R> {
-    /// Finds the pair of entries at a path, if everything at and under it is had by one graft and asked for, with no token.
-    pub(crate) fn pair_at(
-        &self,
-        alloc: Global,
-        path: &Path,
-    ) -> Result<Option<EntryPair>, AllocError>
-        ensures { IfOk result (λ found. IfSome found (on_trees self.now IsPairAt path.now)) }
+    /// Finds the pair of entries at a path that stays, if everything at and under it is had by one graft and asked for, with
+    /// no token.
+    pub(crate) fn pair_at<'p>(&self, place: &'p DrivePlace) -> Option<EntryPair<'p>>
+        requires { IsKnown (on_trees self.now IsKnownOf) place.now }
+        ensures { IfSome result (on_trees self.now IsPairAt place.now.path) }
     {
-        let report = self.report;
-        if !path.is_at_or_under(report.ask.target.as_path()) {
-            return Ok(None);
+        if !place.known.stays {
+            return None;
         }
         if !self.is_of_all() {
-            return Ok(None);
+            return None;
         }
-        if report.grafts.has_beneath(path) {
-            return Ok(None);
+        if self.report.grafts.has_beneath(&place.path) {
+            return None;
         }
-        let goal = self.goal_path(alloc, path)?;
-        match self.client_place(alloc, path)? {
-            None => Ok(None),
-            Some(place) => Ok(pair_of(place, goal)),
+        match &place.known.had {
+            None => None,
+            Some(had) => pair_of(had, &place.known.goal),
         }
     }
 }

@@ -4,8 +4,10 @@ ghost use Rattle.svnpath.specs.Paths.{is_at_or_under};
 ghost use Rattle.repo_api.specs.{Kinds.kind_of, declared.entry.Entry.Entry};
 ghost use Rattle.drive_rules.specs.Scopes.{depth_below, depth_said, includes, includes_child, keeps_reported, own_or_inherited, top_limit};
 ghost use Rattle.drive_reports.specs.Targets.{client_tree, drive_scope, reported_depth, drive_limit, client_entries, target_entries};
-ghost use Rattle.drive_sides.specs.{OnTrees.on_trees, Pairs.IsOfAll, Plans.whole, Depths.{depth_at, FollowsWholeReport, Reaches}};
+ghost use Rattle.reporter.specs.Knowing.{IsKnown};
+ghost use Rattle.drive_sides.specs.{Known.IsKnownOf, OnTrees.on_trees, Pairs.IsOfAll, Plans.whole, Depths.{depth_at, FollowsWholeReport, Reaches}};
 
+use crate::known::DrivePlace;
 use crate::reach::{Reach, reach_of};
 use crate::two_trees::TwoTrees;
 use drive_reports::{DepthAsked, is_to_the_end};
@@ -120,14 +122,15 @@ impl<'a, R: Repository> TwoTrees<'a, R> {
         }
     }
 
-    /// Says whether a directory of this depth lets its child of this path into the scope.
-    fn includes(&self, alloc: Global, depth: Depth, child: &Path) -> Result<bool, AllocError>
-        ensures { IfOk result (λ answer. answer ≡ includes (on_trees self.now drive_limit)
-            (on_trees self.now client_entries) (on_trees self.now target_entries) depth child.now) }
+    /// Says whether a directory of this depth lets its child at this path into the scope.
+    fn includes(&self, depth: Depth, child: &DrivePlace) -> bool
+        requires { IsKnown (on_trees self.now IsKnownOf) child.now }
+        ensures { result ≡ includes (on_trees self.now drive_limit)
+            (on_trees self.now client_entries) (on_trees self.now target_entries) depth
+            child.now.path }
     {
-        let old = self.client_kind(alloc, child)?;
-        let new = self.target_kind(alloc, child)?;
-        Ok(includes_child(depth, old, new) || self.keeps_reported(old))
+        let old = self.kind_had(child);
+        includes_child(depth, old, self.kind_to_be(child)) || self.keeps_reported(old)
     }
 
     /// Says whether the names from the target down to a path stay in scope.
@@ -137,13 +140,14 @@ impl<'a, R: Repository> TwoTrees<'a, R> {
     {
         let target = self.report.ask.target.as_path();
         let mut depth = self.top_limit(alloc)?;
-        let mut here = target.clone()?;
+        let mut here = self.top_place(alloc)?;
         for name in &path.components()[target.len()..] {
-            here = here.child(alloc, name.clone()?)?;
-            if !self.includes(alloc, depth, &here)? {
+            let child = here.path.child(alloc, name.clone()?)?;
+            here = self.child_place(alloc, &here, child)?;
+            if !self.includes(depth, &here) {
                 return Ok(false);
             }
-            depth = own_or_inherited(self.own_depth(alloc, &here)?, depth);
+            depth = own_or_inherited(self.own_depth(alloc, &here.path)?, depth);
         }
         Ok(true)
     }

@@ -1,9 +1,11 @@
 //! What the entries of a drive are told, and what else is to be known of them.
 ghost use Rattle.std.specs.Prelude.{◌≡◌, true, IfOk, option_and_then, option_map};
+ghost use Rattle.reporter.specs.Knowing.{IsKnown};
 ghost use Rattle.drive_reports.specs.Targets.{client_tree, drive_scope, is_stale, new_tree, stale_in};
 ghost use Rattle.drive_news.specs.{News.{news_at, news_of}, Places.entry_had};
-ghost use Rattle.drive_sides.specs.OnTrees.{on_trees};
+ghost use Rattle.drive_sides.specs.{Known.IsKnownOf, OnTrees.on_trees};
 
+use crate::known::DrivePlace;
 use crate::two_trees::TwoTrees;
 use crate::views::had_at;
 use drive_news::{Had, News, Place, Sight, news_of};
@@ -13,33 +15,34 @@ use svnpath::Path;
 
 impl<'a, R: Repository> TwoTrees<'a, R> {
     /// Says whether the client's token of a path is stale.
-    pub(crate) fn is_stale(&self, alloc: Global, path: &Path) -> Result<bool, AllocError>
-        ensures { IfOk result (λ answer. answer ≡ on_trees self.now is_stale path.now) }
+    fn is_stale(&self, place: &DrivePlace) -> bool
+        requires { IsKnown (on_trees self.now IsKnownOf) place.now }
+        ensures { result ≡ on_trees self.now is_stale place.now.path }
     {
-        let Some(place) = self.client_place(alloc, path)? else {
-            return Ok(false);
+        let Some(had) = &place.known.had else {
+            return false;
         };
-        let Some(token) = place.token else {
-            return Ok(false);
+        let Some(token) = &had.token else {
+            return false;
         };
-        if !self.target_kind(alloc, path)?.is_present() {
-            return Ok(false);
+        if !self.kind_to_be(place).is_present() {
+            return false;
         }
-        let goal = self.goal_path(alloc, path)?;
-        match self.view.lock_at(&goal) {
-            None => Ok(true),
-            Some(lock) => Ok(&lock.token != token),
+        match self.view.lock_at(&place.known.goal) {
+            None => true,
+            Some(lock) => &lock.token != token,
         }
     }
 
     /// Says whether the client's token of a path of the drive is stale.
-    pub(crate) fn is_stale_in(&self, alloc: Global, path: &Path) -> Result<bool, AllocError>
-        ensures { IfOk result (λ answer. answer ≡ on_trees self.now stale_in path.now) }
+    pub(crate) fn is_stale_in(&self, alloc: Global, place: &DrivePlace) -> Result<bool, AllocError>
+        requires { IsKnown (on_trees self.now IsKnownOf) place.now }
+        ensures { IfOk result (λ answer. answer ≡ on_trees self.now stale_in place.now.path) }
     {
-        if !self.is_in_scope(alloc, path)? {
+        if !self.is_in_scope(alloc, &place.path)? {
             return Ok(false);
         }
-        self.is_stale(alloc, path)
+        Ok(self.is_stale(place))
     }
 
     /// Finds the revision that the client reports of what it has at a path.
@@ -57,28 +60,52 @@ impl<'a, R: Repository> TwoTrees<'a, R> {
     fn news_over(
         &self,
         alloc: Global,
-        path: &Path,
+        place: &DrivePlace,
         old: Option<Had<'_>>,
     ) -> Result<Option<News>, AllocError>
-        requires { on_trees self.now drive_scope path.now ≡ true }
+        requires scope { on_trees self.now drive_scope place.now.path ≡ true }
+        requires known { IsKnown (on_trees self.now IsKnownOf) place.now }
         ensures { IfOk result (λ found. found ≡ option_map (news_of (R.content self.now.view.now)
-            self.now.report.now.ask.purpose (on_trees self.now stale_in path.now)
+            self.now.report.now.ask.purpose (on_trees self.now stale_in place.now.path)
             (option_and_then (entry_had (R.content self.now.view.now)) old.entry))
-            (on_trees self.now new_tree path.now)) }
+            (on_trees self.now new_tree place.now.path)) }
     {
+        if !self.kind_to_be(place).is_present() {
+            return Ok(None);
+        }
         let ask = &self.report.ask;
-        let goal = self.goal_path(alloc, path)?;
-        let is_stale = self.is_stale(alloc, path)?;
         let sight = Sight {
             purpose: ask.purpose,
-            is_stale,
+            is_stale: self.is_stale(place),
             old,
             new: Place {
                 revision: ask.revision,
-                path: &goal,
+                path: &place.known.goal,
             },
         };
         news_of(alloc, self.view, sight)
+    }
+
+    /// Gives what an entry of the drive is told of itself, opened or anew.
+    fn news_of_place(
+        &self,
+        alloc: Global,
+        place: &DrivePlace,
+        is_anew: bool,
+    ) -> Result<Option<News>, AllocError>
+        requires scope { on_trees self.now drive_scope place.now.path ≡ true }
+        requires known { IsKnown (on_trees self.now IsKnownOf) place.now }
+        ensures { IfOk result (λ found. found ≡ option_map
+            (on_trees self.now news_at place.now.path is_anew)
+            (on_trees self.now new_tree place.now.path)) }
+    {
+        if is_anew {
+            return self.news_over(alloc, place, None);
+        }
+        match &place.known.had {
+            None => self.news_over(alloc, place, None),
+            Some(had) => self.news_over(alloc, place, Some(had_at(had))),
+        }
     }
 
     /// Gives what an entry is told of itself, opened or anew.
@@ -94,15 +121,7 @@ impl<'a, R: Repository> TwoTrees<'a, R> {
         if !self.is_in_scope(alloc, path)? {
             return Ok(None);
         }
-        if is_anew {
-            return self.news_over(alloc, path, None);
-        }
-        match self.client_place(alloc, path)? {
-            None => self.news_over(alloc, path, None),
-            Some(place) => {
-                let old = had_at(&place);
-                self.news_over(alloc, path, Some(old))
-            }
-        }
+        let place = self.place_at(alloc, path)?;
+        self.news_of_place(alloc, &place, is_anew)
     }
 }

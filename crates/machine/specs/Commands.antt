@@ -80,18 +80,24 @@ read_answer env client command c = says env (Serving client) (read_replies clien
 
 -- ---- the beginning of a report
 
--- what a command asks a report for, or why it is refused
-abbrev pub drive_ask : RepoState → List ℕ → PathValue → DriveCommand → Result DriveAsk Refusal
-drive_ask c name path (Update request) = ask_of c name path purposes.Update request None
-drive_ask c name path (Switch request url) =
-    ask_of c name path purposes.Switch request (Some url)
-drive_ask c name path (Status request) = ask_of c name path purposes.Status request None
+-- what a command of a client, of today or another, asks a report for, or why it is refused
+abbrev pub drive_ask : RepoState → Bool → List ℕ → PathValue → DriveCommand
+    → Result DriveAsk Refusal
+drive_ask c is_of_today name path (Update request) =
+    ask_of c is_of_today name path purposes.Update request None
+drive_ask c is_of_today name path (Switch request url) =
+    ask_of c is_of_today name path purposes.Switch request (Some url)
+drive_ask c is_of_today name path (Status request) =
+    ask_of c is_of_today name path purposes.Status request None
 
 -- a report begins, with its refusal if there is one
 abbrev pub drive_begins : Settings → Env → Client → DriveCommand → RepoState → Answer
 drive_begins s env client command c =
     says env
-    (Reporting (record { client = client; report = begun_report (drive_ask c s.name client.path command) }))
+    (Reporting (record {
+      client = client;
+      report = begun_report (drive_ask c client.is_of_today s.name client.path command);
+    }))
     []
 
 -- ---- the beginning of a commit

@@ -9,3 +9,4 @@ pub mod Leaving
 pub mod Existing
 pub mod Pairs
 pub mod Remembering
+pub mod Knowing

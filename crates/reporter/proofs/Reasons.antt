@@ -1,12 +1,12 @@
 -- Why an entry is named, and that nothing is said where there is no reason.
 use Rattle.std.proofs.Common.{arith, ◌≡◌, ◌<◌, ◌+◌, ℕ, Bool, true, false, ◌||◌, not, List, [], ◌∷◌, ◌++◌, length, get_or, map, take, Option, Some, None, refl}
 use Rattle.std.proofs.{Common.{drop, sym, ap, ◌∙◌, subst, inl, inr, ⊎_elim, if◌then◌else◌, MatchBool}, lemmas.Bool.false≢true}
-use Rattle.std.proofs.lemmas.List.{length-append, take_more}
+use Rattle.std.proofs.lemmas.List.{length-append, map_more}
 use Rattle.std.specs.Prelude.{IsSome, is_some}
 use Rattle.svnpath.specs.{PathLaws.{under_append, under_is, under_itself}, Paths.{is_at_or_under, PathValue}}
 use Rattle.repo_api.specs.{Trees.Tree, declared.entry.Entry.Entry}
 use Rattle.drive_rules.proofs.{Entries.{no_length, under_more}, Joined.or_cases}
-use Rattle.reporter.specs.{declared.visit.Visit.TheVariants.Delete, Left.{IsPlanBelow, IsSilent, ArePlansOf}}
+use Rattle.reporter.specs.{declared.known_path.KnownPath.KnownPath, declared.visit.Visit.TheVariants.Delete, Knowing.paths_of, Left.{IsPlanBelow, IsSilent, ArePlansOf}}
 use Rattle.reporter.specs.Walks.{WalkedTrees, HasReasonAt, IsChild, IsDue, IsListed, AreAlike, goes, goes_at, going}
 use Rattle.reporter.proofs.{Planning.{goes_why, one_side, same_length}, Plans.{below_directory, plans_append, absent, alike as all_alike}}
 
@@ -56,10 +56,10 @@ none_going_more apart r t (x ∷ xs) y none stays = by (goes (apart x) (r x) (t 
     by true n more = cc
     by false n more = more n
 
-pub one_more : (t : WalkedTrees) (xs : List PathValue) (i : ℕ) (x : PathValue) → i < length xs → x ≡ get_or xs i x → IsSilent t x → SaysNothing t (take i xs) → SaysNothing t (take (i + 1) xs)
+pub one_more : {K : Type 0} (t : WalkedTrees) (xs : List (KnownPath K)) (i : ℕ) (x : KnownPath K) → i < length xs → x ≡ get_or xs i x → IsSilent t x.path → SaysNothing t (paths_of (take i xs)) → SaysNothing t (paths_of (take (i + 1) xs))
 one_more t xs i x lt is silent says =
-    subst (SaysNothing t) (sym (take_more xs i x lt ∙ ap (λ y. take i xs ++ y ∷ []) (sym is)))
-    (plans_append t false (take i xs) (x ∷ []) [] [] says.0 ([], [], refl, silent.1, refl), none_going_more t.apart t.old t.new (take i xs) x says.1 silent.0)
+    subst (SaysNothing t) (sym (map_more (λ y. y.path) xs i x lt ∙ ap (λ y. paths_of (take i xs) ++ y.path ∷ []) (sym is)))
+    (plans_append t false (paths_of (take i xs)) (x.path ∷ []) [] [] says.0 ([], [], refl, silent.1, refl), none_going_more t.apart t.old t.new (paths_of (take i xs)) x.path says.1 silent.0)
 
 pub nothing_said_below : (t : WalkedTrees) (p : PathValue) (xs : List PathValue) → IsListed t p xs → SaysNothing t xs → IsPlanBelow t false p []
 nothing_said_below t p xs listed says =

@@ -2,7 +2,7 @@
 use Rattle.std.specs.Prelude.{◌≡◌, Bool, true, false, ◌||◌, List, [], ◌∷◌, ◌++◌}
 use Rattle.svnpath.specs.Paths.{PathValue}
 use Rattle.drive_rules.specs.{Places.is_in_directory, Scopes.{below, under}}
-use Rattle.reporter.specs.{Nesting.{AreNested, entry_visit, entry_visits}, Visits.IsRightPlan, Walks.{WalkedTrees, BothHold, deletes_of, goes_at, old_side}}
+use Rattle.reporter.specs.{Knowing.paths_of, Nesting.{AreNested, entry_visit, entry_visits}, Visits.IsRightPlan, Walks.{WalkedTrees, BothHold, deletes_of, goes_at, old_side}}
 use Rattle.reporter.specs.{declared.unvisited.Found.Found, declared.unvisited.Found.TheVariants.{Nothing, Single, Entered}}
 use Rattle.reporter.specs.{declared.unvisited.Unvisited.Unvisited, declared.visit.Visit.Visit, declared.visit.Visit.TheVariants.{Close, Open}}
 
@@ -70,32 +70,33 @@ pub record IsEnough (t : WalkedTrees) (ps kept : List PathValue) : Type 0 where
   pub plans : (vs : List Visit) → ArePlansOf t false kept vs → ArePlansOf t false ps vs
 
 -- these may be the visits of what is left in a directory
-abbrev pub IsLeftIn : WalkedTrees → Unvisited → List Visit → Type 0
+abbrev pub IsLeftIn : {K : Type 0} → WalkedTrees → Unvisited K → List Visit → Type 0
 IsLeftIn t d vs =
     (later : List Visit) × (vs ≡ d.deletes.items ++ later)
-    × ArePlansOf t d.is_anew d.entries.items later
+    × ArePlansOf t d.is_anew (paths_of d.entries.items) later
 
 -- the visits behind those of a directory, which is closed, unless no other is open around it
-abbrev pub behind : List Unvisited → List Visit → List Visit
+abbrev pub behind : {K : Type 0} → List (Unvisited K) → List Visit → List Visit
 behind [] vs = vs
 behind (d ∷ ds) vs = Close ∷ vs
 
 -- these may be the visits of what is left in the directories that are open, the innermost first
-abbrev pub IsLeft : WalkedTrees → List Unvisited → List Visit → Type 0
+abbrev pub IsLeft : {K : Type 0} → WalkedTrees → List (Unvisited K) → List Visit → Type 0
 IsLeft t [] vs = vs ≡ []
 IsLeft t (d ∷ ds) vs =
     (now : List Visit) × (later : List Visit) × (vs ≡ now ++ behind ds later) × IsLeftIn t d now
     × IsLeft t ds later
 
 -- these may be the visits of what was found next, with those below it
-abbrev pub IsFound : WalkedTrees → Found → List Visit → Type 0
+abbrev pub IsFound : {K : Type 0} → WalkedTrees → Found K → List Visit → Type 0
 IsFound t Nothing vs = vs ≡ []
 IsFound t (Single v) vs = vs ≡ v ∷ []
 IsFound t (Entered v d) vs =
     (rest : List Visit) × (vs ≡ v ∷ (rest ++ Close ∷ [])) × IsLeftIn t d rest
 
 -- what was found comes next in a directory; where nothing was found, nothing was left
-pub record IsNextFound (t : WalkedTrees) (old new : Unvisited) (found : Found) : Type 0 where
+pub record IsNextFound {K : Type 0} (t : WalkedTrees) (old new : Unvisited K) (found : Found K)
+    : Type 0 where
   pub next : (vs more : List Visit) → IsFound t found vs → IsLeftIn t new more
       → IsLeftIn t old (vs ++ more)
   pub end : found ≡ Nothing → IsLeftIn t old []

@@ -4,10 +4,10 @@ use Rattle.reporter.specs.{Left.IsSilent, Walks.{HasReasonAt, WalkedTrees}}
 use Rattle.reporter.specs.{declared.memory.Memory.Memory, declared.memory.SilentPath.SilentPath}
 
 -- what is remembered is so: nothing is to be said of the one paths, and the other may be named
-pub record Remembers (t : WalkedTrees) (memory : Memory) : Type 0 where
-  pub silent : All (λ (s : SilentPath). IsSilent t s.path) memory.silent.items
+pub record Remembers {K : Type 0} (t : WalkedTrees) (memory : Memory K) : Type 0 where
+  pub silent : All (λ (s : SilentPath K). IsSilent t s.place.path) memory.silent.items
   pub news : IfSome memory.news (HasReasonAt t)
 
 -- if what was remembered was so, then what is remembered now is, and this is so
-abbrev pub IfRemembers : WalkedTrees → Memory → Memory → Type 0 → Type 0
+abbrev pub IfRemembers : {K : Type 0} → WalkedTrees → Memory K → Memory K → Type 0 → Type 0
 IfRemembers t old new fact = Remembers t old → Remembers t new × fact

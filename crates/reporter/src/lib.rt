@@ -2,6 +2,7 @@
 #![tactic(auto)]
 
 mod kinds;
+mod known_path;
 mod making;
 mod memory;
 mod searching;
@@ -11,6 +12,7 @@ mod visit;
 mod visitor;
 
 pub use kinds::Kinds;
+pub use known_path::KnownPath;
 pub use sides::Sides;
 pub use visit::Visit;
 pub use visitor::Visitor;

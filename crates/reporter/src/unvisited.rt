@@ -1,29 +1,29 @@
 //! What is not visited yet.
 ghost use Rattle.std.specs.Prelude.{◌≡◌, Decides};
 
+use crate::known_path::KnownPath;
 use crate::visit::Visit;
 use std::collections::VecDeque;
-use svnpath::Path;
 
 /// What is not visited yet in a directory: what goes, and then the entries that stand in it on
 /// either side. Where the directory comes anew, so does each entry.
 #[derive(Drop)]
-pub struct Unvisited {
+pub struct Unvisited<K: Drop> {
     pub(crate) deletes: VecDeque<Visit>,
-    pub(crate) entries: VecDeque<Path>,
+    pub(crate) entries: VecDeque<KnownPath<K>>,
     pub(crate) is_anew: bool,
 }
 
 /// What is visited next: nothing more, a visit, or one that enters a directory, with what is not
 /// visited below it.
 #[derive(Drop)]
-pub(crate) enum Found {
+pub(crate) enum Found<K: Drop> {
     Nothing,
     Single(Visit),
-    Entered(Visit, Unvisited),
+    Entered(Visit, Unvisited<K>),
 }
 
-impl Found {
+impl<K: Drop> Found<K> {
     ghost use Rattle.reporter.specs.declared.unvisited.Found.TheVariants.{Nothing};
 
     /// Says whether nothing more was found.

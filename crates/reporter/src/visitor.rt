@@ -6,46 +6,54 @@ use crate::unvisited::{Found, Unvisited};
 use crate::visit::Visit;
 use std::alloc::{AllocError, Global};
 use std::collections::VecDeque;
-use svnpath::Path;
 
 /// The visits of a drive, made as they are asked for: it keeps the directories that are open, the
 /// innermost first, each with what is not visited in it, and what was found out of paths that were searched. So it takes no
 /// more memory than these directories have entries, and the paths that it remembers, however many paths the drive names.
-#[derive(Drop)]
-pub struct Visitor {
-    open: VecDeque<Unvisited>,
-    memory: Memory,
+pub struct Visitor<K: Drop> {
+    open: VecDeque<Unvisited<K>>,
+    memory: Memory<K>,
 }
 
-impl Visitor {
-    ghost use Rattle.std.specs.Prelude.{◌≡◌, ◌∷◌, [], false, IfOk, List, MatchOption};
+impl<K: Drop> Drop for Visitor<K> {
+    fn drop(self) {
+        let Visitor { open: _, memory: _ } = self;
+    }
+}
+
+impl<K: Drop> Visitor<K> {
+    ghost use Rattle.std.specs.Prelude.{◌≡◌, ◌∷◌, [], false, IfOk, List, MatchOption, OnOk};
     ghost use Rattle.repo_api.specs.Trees.{HasDirectory};
-    ghost use Rattle.reporter.specs.{Left.{behind, IsRootPlan, IsTopPlan}, Visiting.{MayVisit, IsNew, IsNext}, declared.visit.Visit.Visit};
+    ghost use Rattle.reporter.specs.{Knowing.{AreLeftKnown, HoldsKnown}, Left.{behind, IsRootPlan, IsTopPlan}, Visiting.{MayVisit, IsNew, IsNext}, declared.visit.Visit.Visit};
 
     /// Makes the visits of a drive of the whole tree: what it does below the root, which is opened
     /// before.
-    pub fn of_root<S: Sides>(alloc: Global, sides: &S) -> Result<Self, AllocError>
+    pub fn of_root<S: Sides<Known = K>>(alloc: Global, sides: &S) -> Result<Self, AllocError>
+        requires root { S.start sides.now ≡ [] }
         requires old { HasDirectory (S.trees sides.now).old [] }
         requires new { HasDirectory (S.trees sides.now).new [] }
         requires stays { (S.trees sides.now).apart [] ≡ false }
-        ensures { IfOk result (λ v. (vs : List Visit) → MayVisit (S.trees sides.now) v vs
+        ensures plan { IfOk result (λ v. (vs : List Visit) → MayVisit (S.trees sides.now) v vs
             → IsRootPlan (S.trees sides.now) vs) }
+        ensures known { IfOk result (HoldsKnown (S.knows sides.now)) }
     {
-        let below = unvisited_below(alloc, sides, &Path::root(alloc), false)?;
+        let top = sides.top(alloc)?;
+        let below = unvisited_below(alloc, sides, &top, false)?;
         Visitor::of(alloc, below)
     }
 
     /// Makes the visits of a drive from its top on.
-    pub fn of_top<S: Sides>(alloc: Global, sides: &S, top: &Path) -> Result<Self, AllocError>
-        ensures { IfOk result (λ v. (vs : List Visit) → MayVisit (S.trees sides.now) v vs
-            → IsTopPlan (S.trees sides.now) top.now vs) }
+    pub fn of_top<S: Sides<Known = K>>(alloc: Global, sides: &S) -> Result<Self, AllocError>
+        ensures plan { IfOk result (λ v. (vs : List Visit) → MayVisit (S.trees sides.now) v vs
+            → IsTopPlan (S.trees sides.now) (S.start sides.now) vs) }
+        ensures known { IfOk result (HoldsKnown (S.knows sides.now)) }
     {
-        let here = unvisited_top(alloc, sides, top)?;
+        let here = unvisited_top(alloc, sides)?;
         Visitor::of(alloc, here)
     }
 
     /// Makes the visits of one directory.
-    fn of(alloc: Global, here: Unvisited) -> Result<Self, AllocError>
+    fn of(alloc: Global, here: Unvisited<K>) -> Result<Self, AllocError>
         ensures { IfOk result (λ v. IsNew v here) }
     {
         let mut open = VecDeque::new(alloc);
@@ -57,13 +65,19 @@ impl Visitor {
     }
 
     /// Gives the next visit. After the last there is none, and after an error none is to be asked
-    /// for.
+    /// for. The two sides are those that the visitor was made for.
     ///
     /// # Errors
     ///
     /// `AllocError` when out of memory.
-    pub fn next<S: Sides>(&mut self, alloc: Global, sides: &S) -> Result<Option<Visit>, AllocError>
-        ensures { IfOk result (IsNext (S.trees sides.now) self.old self.new) }
+    pub fn next<S: Sides<Known = K>>(
+        &mut self,
+        alloc: Global,
+        sides: &S,
+    ) -> Result<Option<Visit>, AllocError>
+        requires { HoldsKnown (S.knows sides.now) self.old }
+        ensures next { IfOk result (IsNext (S.trees sides.now) self.old self.new) }
+        ensures known { OnOk result (HoldsKnown (S.knows sides.now) self.new) }
     {
         let Some(mut here) = self.open.pop_front() else {
             return Ok(None);

@@ -1,5 +1,5 @@
 //! The beginning of a report.
-ghost use Rattle.std.specs.Prelude.{◌≡◌, ℕ, List, [], option_copied};
+ghost use Rattle.std.specs.Prelude.{◌≡◌, ℕ, Bool, List, [], option_copied};
 ghost use Rattle.svnpath.specs.Paths.{PathValue};
 ghost use Rattle.repo_api.specs.States.{RepoState};
 ghost use Rattle.drive_reports.specs.Refusing.{ReportState, ask_of, begun_report};
@@ -19,9 +19,9 @@ use wire_replies::ReplySink;
 
 /// Says what a command asks a report for.
 fn errand_of(command: &DriveCommand) -> Errand<'_>
-    ensures { (c : RepoState) (name : List ℕ) (path : PathValue)
-        → ask_of c name path result.purpose result.request.now (option_copied result.url)
-        ≡ drive_ask c name path command.now }
+    ensures { (c : RepoState) (is_of_today : Bool) (name : List ℕ) (path : PathValue)
+        → ask_of c is_of_today name path result.purpose result.request.now
+        (option_copied result.url) ≡ drive_ask c is_of_today name path command.now }
 {
     match command {
         DriveCommand::Update(request) => Errand {
@@ -51,10 +51,12 @@ pub(crate) fn begun_report<R: Repository, A: RepoAccess<View = R>>(
     access: &mut A,
 ) -> Result<Report<Grafts>, AllocError>
     ensures { Looks A.rules A.point access.old access.new (λ c. Makes result
-        (begun_report (drive_ask c options.now.name client.now.path command.now))) }
+        (begun_report (drive_ask c client.now.is_of_today options.now.name client.now.path
+        command.now))) }
 {
     let view = access.look()?;
     let anchor = Anchor {
+        is_of_today: client.is_of_today,
         name: options.name(),
         path: &client.path,
     };

@@ -11,21 +11,21 @@ returns-in_err-visit g c =
 pub returns-in_default : goal.returns-in_default
 returns-in_default g c =
     said_all (g.R.Repository.content c.args.trees.now.view.now) (whole c.args.trees.now.report.now c.args.trees.now.root) g.S.ReplySink.writes
-    c.args.visitor.now c.loop.visitor c.args.out.now c.loop.out c.loop.around c.loop.invariant.1 (rw c.in_default.is at c.in_ok-visit.ensures)
+    c.args.visitor.now c.loop.visitor c.args.out.now c.loop.out c.loop.around c.loop.invariant.1 (rw c.in_default.is at c.in_ok-visit.ensures.next)
 
 pub returns-in_err-around : goal.returns-in_err-around
 returns-in_err-around g c =
     let p = err_from_is_err_and c.from_residual-in_err-around.result c.from_residual-in_err-around.ensures.1 in
     rw (p.1) (said_failed (g.R.Repository.content c.args.trees.now.view.now) (whole c.args.trees.now.report.now c.args.trees.now.root) g.S.ReplySink.writes
     g.met.S.ReplySink.more c.args.visitor.now c.loop.visitor c.next.new.self c.args.out.now c.loop.out c.say_next.new.out c.loop.around c.in-Some.visit
-    c.loop.invariant.1 (rw c.in-Some.is at c.in_ok-visit.ensures) c.in_err-around.ensures.said)
+    c.loop.invariant.1 (rw c.in-Some.is at c.in_ok-visit.ensures.next) c.in_err-around.ensures.said)
 
 pub loop-preserved : goal.loop-preserved
 loop-preserved g c = (
-  omega (arith, deeper_by_one c.loop.around c.in-Some.visit, c.in_ok-around.ensures.after, c.loop.invariant.0),
+  (omega (arith, deeper_by_one c.loop.around c.in-Some.visit, c.in_ok-around.ensures.after, c.loop.invariant.0.0), c.in_ok-visit.ensures.known),
   said_next (g.R.Repository.content c.args.trees.now.view.now) (whole c.args.trees.now.report.now c.args.trees.now.root) g.S.ReplySink.writes
       g.met.S.ReplySink.more c.args.visitor.now c.loop.visitor c.next.new.self c.args.out.now c.loop.out c.say_next.new.out c.loop.around c.in_ok-around.around
-      c.in-Some.visit c.loop.invariant.1 (rw c.in-Some.is at c.in_ok-visit.ensures) c.in_ok-around.ensures.after c.in_ok-around.ensures.said,
+      c.in-Some.visit c.loop.invariant.1 (rw c.in-Some.is at c.in_ok-visit.ensures.next) c.in_ok-around.ensures.after c.in_ok-around.ensures.said,
 )
 
 pub returns : goal.returns

@@ -16,7 +16,7 @@ returns-in-Read g c = rw c.in-Read.is c.tell_read.ensures
 pub returns-in-Drive : goal.returns-in-Drive
 returns-in-Drive g c =
     let now = content_of (g.A.RepoAccess.point c.begun_report-report.new.access) in
-    let report = begun_report (drive_ask now c.args.options.now.name c.args.client.path c.in-Drive.command) in
+    let report = begun_report (drive_ask now c.args.client.is_of_today c.args.options.now.name c.args.client.path c.in-Drive.command) in
     rw c.in-Drive.is
     (opened _ _ (told_before c.args.request.preface) c.begun_report-report.ensures.0 c.args.turn.now.env c.args.client report refl
     _ c.begun_report-report.result c.open_report.result _ c.begun_report-report.ensures.1 c.open_report.ensures)

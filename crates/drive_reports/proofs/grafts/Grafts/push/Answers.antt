@@ -1,16 +1,21 @@
-use Rattle.std.proofs.{Common.{arith, ◌≡◌, ◌-◌, ◌++◌, ◌∷◌, [], ◌||◌, length, take, ap, sym, subst, ◌∙◌}, Math.Seq.take-append_seam, lemmas.List.length_push}
+use Rattle.std.proofs.{Common.{arith, Bool, ◌≡◌, ◌-◌, ◌++◌, ◌∷◌, [], ◌||◌, length, List, take, ap, sym, subst, ◌∙◌}, Math.Seq.take-append_seam, lemmas.List.length_push}
 use Rattle.std.proofs.{lemmas.List.Elements.{All-nil, All-cons, All-append}, lemmas.List.Folds.list_any-append}
 use Rattle.std.specs.{Prelude.vec_len, List.list_any}
-use Rattle.drive_reports.specs.{Depths.is_shallow, Finding.{AreFound, IsNoted}, Named.{AreNamed, IsNamed}, declared.graft.Graft.Graft}
+use Rattle.drive_reports.specs.{Depths.is_shallow, Finding.{AreFound, IsNoted}, Links.is_linked, Named.{AreNamed, IsNamed}, declared.graft.Graft.Graft}
 use Rattle.drive_reports.proofs.Finding.{found_more, or_nothing}
 use Rattle.drive_reports.proofs.grafts.Grafts.push.Goals as goal
+
+-- whether some graft passes a test, with one graft more
+any_more : (test : Graft → Bool) (gs : List Graft) (g : Graft) (before now : Bool) → before ≡ list_any test gs → now ≡ (before || test g) → now ≡ list_any test (gs ++ g ∷ [])
+any_more test gs g before now was is =
+    is ∙ ap (λ b. b || test g) was ∙ ap (λ b. list_any test gs || b) (sym (or_nothing (test g))) ∙ sym (list_any-append test gs (g ∷ []))
 
 pub invariant_of-self : goal.invariant_of-self
 invariant_of-self c =
     let index = c.self.inside.index in
     subst
     (λ gs. AreNamed gs × AreFound gs index.newest.entries index.older.items
-    × (c.self.inside.has_shallow ≡ list_any is_shallow gs))
+    × (c.self.inside.has_shallow ≡ list_any is_shallow gs) × (c.self.inside.has_link ≡ list_any is_linked gs))
     (sym c.in_err-push.ensures.items) c.self.invariant
 
 pub invariant_of-self-in-Ok : goal.invariant_of-self-in-Ok
@@ -26,15 +31,12 @@ invariant_of-self-in-Ok c =
     let noted = subst (λ p. IsNoted p old new) at c.in-Ok.ensures.ok in
     let found =
     found_more gs graft old.newest.entries new.newest.entries old.older.items new.older.items c.self.invariant.1 noted.newest noted.older in
-    let shallow : c.has_shallow_too-has_shallow.result ≡ list_any is_shallow (gs ++ graft ∷ []) =
-    c.has_shallow_too-has_shallow.ensures
-    ∙ ap (λ b. b || is_shallow graft) c.self.invariant.2
-    ∙ ap (λ b. list_any is_shallow gs || b) (sym (or_nothing (is_shallow graft)))
-    ∙ sym (list_any-append is_shallow gs (graft ∷ [])) in
+    let shallow = any_more is_shallow gs graft c.self.inside.has_shallow c.has_shallow_too-has_shallow.result c.self.invariant.2 c.has_shallow_too-has_shallow.ensures in
+    let linked = any_more is_linked gs graft c.self.inside.has_link c.has_link_too-has_link.result c.self.invariant.3 c.has_link_too-has_link.ensures in
     subst
     (λ gs. AreNamed gs × AreFound gs new.newest.entries new.older.items
-    × (c.has_shallow_too-has_shallow.result ≡ list_any is_shallow gs))
-    (sym c.in_ok-push.ensures.items) (named, found, shallow)
+    × (c.has_shallow_too-has_shallow.result ≡ list_any is_shallow gs) × (c.has_link_too-has_link.result ≡ list_any is_linked gs))
+    (sym c.in_ok-push.ensures.items) (named, found, shallow, linked)
 
 pub invariant_of-self-in-Err : goal.invariant_of-self-in-Err
 invariant_of-self-in-Err c =
@@ -54,5 +56,5 @@ invariant_of-self-in-Err c =
     (subst (λ os. AreFound gs old.newest.entries os) (sym c.in-Err.ensures.err.1) c.self.invariant.1) in
     subst
     (λ gs. AreNamed gs × AreFound gs new.newest.entries new.older.items
-    × (c.self.inside.has_shallow ≡ list_any is_shallow gs))
-    (sym back) (c.self.invariant.0, found, c.self.invariant.2)
+    × (c.self.inside.has_shallow ≡ list_any is_shallow gs) × (c.self.inside.has_link ≡ list_any is_linked gs))
+    (sym back) (c.self.invariant.0, found, c.self.invariant.2, c.self.invariant.3)

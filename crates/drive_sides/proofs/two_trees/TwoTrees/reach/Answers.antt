@@ -1,7 +1,6 @@
 use Rattle.std.proofs.Common.{sym, ap, subst, ◌∙◌}
 use Rattle.svnpath.specs.Paths.{is_at_or_under}
-use Rattle.drive_sides.specs.{Depths.Reaches, Plans.whole}
-use Rattle.drive_sides.specs.declared.reach.Reach.{Reach}
+use Rattle.drive_sides.specs.{Depths.Reaches, Plans.whole, declared.reach.Reach.Reach}
 use Rattle.drive_sides.proofs.Deep.{reaches}
 use Rattle.drive_sides.proofs.two_trees.TwoTrees.reach.Goals as goal
 

@@ -1,9 +1,12 @@
+-- So far nothing has left the scope, and what is known of the path is so.
 use Rattle.std.proofs.Common.{drop}
-use Rattle.drive_reports.specs.{Reported.reported_entries, Targets.{client_tree, limit_of, target_tree}}
-use Rattle.drive_sides.specs.Plans.{whole}
+use Rattle.reporter.specs.Knowing.{IsKnown}
+use Rattle.drive_reports.specs.Targets.{client_entries, drive_limit, target_entries}
+use Rattle.drive_sides.specs.{Known.IsKnownOf, Plans.whole}
 use Rattle.drive_sides.proofs.Reaching.{IsSoFar}
 use Rattle.drive_sides.proofs.two_trees.TwoTrees.stays_in_scope.Given as goal
 
 abbrev pub invariant-loop-name : goal.invariant-loop-name
 invariant-loop-name g l =
-    IsSoFar (limit_of (client_tree (g.R.Repository.content l.self.view.now) (whole l.self.report.now l.self.root)) l.self.root l.self.report.now.ask.depth) (reported_entries (client_tree (g.R.Repository.content l.self.view.now) (whole l.self.report.now l.self.root))) (target_tree (g.R.Repository.content l.self.view.now) l.self.report.now.ask) l.self.report.now.ask.target l.path l.here l.depth (drop l.name-index l.name-items)
+    IsSoFar (drive_limit (g.R.Repository.content l.self.view.now) (whole l.self.report.now l.self.root)) (client_entries (g.R.Repository.content l.self.view.now) (whole l.self.report.now l.self.root)) (target_entries (g.R.Repository.content l.self.view.now) (whole l.self.report.now l.self.root)) l.self.report.now.ask.target l.path l.here.path l.depth (drop l.name-index l.name-items)
+    × IsKnown (IsKnownOf (g.R.Repository.content l.self.view.now) (whole l.self.report.now l.self.root)) l.here

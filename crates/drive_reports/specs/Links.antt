@@ -1,0 +1,44 @@
+-- The links of a report: which paths they lead, and where.
+use Rattle.std.specs.Prelude.{Bool, true, false, not, ◌&&◌, List, [], Option, Some, None, fold, if◌then◌else◌}
+use Rattle.svnpath.specs.Paths.{is_at_or_under, PathValue, same_path}
+use Rattle.drive_reports.specs.{declared.ask.DriveAsk.DriveAsk, declared.ask.Purpose.Purpose, declared.ask.Purpose.TheVariants.{Update, Switch, Status}}
+use Rattle.drive_reports.specs.declared.graft.Graft.{Graft}
+
+-- the later graft, if it is at or above the path
+abbrev pub later_graft : PathValue → Option Graft → Graft → Option Graft
+later_graft q found g = if is_at_or_under q g.path then Some g else found
+
+-- the last graft at or above a path
+abbrev pub last_graft : PathValue → List Graft → Option Graft
+last_graft q grafts = fold (later_graft q) None grafts
+
+-- the graft, if it is of this very path and passes the test
+abbrev pub own_graft : (Graft → Bool) → PathValue → Option Graft → Option Graft
+own_graft test p None = None
+own_graft test p (Some g) = if same_path g.path p && test g then Some g else None
+
+-- the path of the graft is linked to a URL
+abbrev pub is_linked : Graft → Bool
+is_linked g = g.is_link
+
+-- an update and a status are led by links; a switch leads everything to its URL
+abbrev pub follows_links : Purpose → Bool
+follows_links Update = true
+follows_links Status = true
+follows_links Switch = false
+
+-- a path may be led by a link: a client of today reports it, and what it reports of it counts; the
+-- root has no link
+abbrev pub may_lead : DriveAsk → Bool → PathValue → Bool
+may_lead ask counts p =
+    ask.is_of_today && follows_links ask.purpose && counts && not (same_path p [])
+
+-- the link of this very path, if it leads it
+abbrev pub link_at : DriveAsk → List Graft → Bool → PathValue → Option Graft
+link_at ask grafts counts p =
+    if may_lead ask counts p then own_graft is_linked p (last_graft p grafts) else None
+
+-- the link's path of the repository, or else its own
+abbrev pub led_to : PathValue → Option Graft → PathValue
+led_to own None = own
+led_to own (Some link) = link.from

@@ -1,0 +1,53 @@
+-- What is known of a path is what stands there on either side of a drive.
+use Rattle.std.proofs.Common.{◌≡◌, ℕ, Bool, true, false, cond, [], Option, Some, None, option_map, refl, sym, ap, ◌∙◌}
+use Rattle.std.specs.Prelude.{is_some}
+use Rattle.svnpath.specs.Paths.{PathValue}
+use Rattle.repo_api.specs.{States.{RepoState, trees_in}, Trees.Tree, declared.entry.Entry.Entry}
+use Rattle.drive_reports.specs.{Aims.aim_at, Places.{in_place, reported_subtree}, Reported.{ReportedEntry, reported_as, top_entry}, declared.graft.Subtree.Subtree}
+use Rattle.drive_reports.specs.{Targets.{WholeReport, client_entries, drive_scope, new_tree, old_tree, target_entries}, declared.reported.ReportedPlace.ReportedPlace}
+use Rattle.drive_reports.proofs.Aiming.{entry_stands}
+use Rattle.drive_news.specs.{Places.entry_had, declared.news.Had.Had}
+use Rattle.drive_sides.specs.{Known.{IsHadAt, IsKnownOf}, declared.known.DriveKnown.DriveKnown}
+
+-- the entry at a place
+placed_entry : (trees : ℕ → Tree) (place : ReportedPlace) → option_map (λ (h : ReportedEntry). h.entry) (in_place trees place []) ≡ option_map (top_entry place.starts_empty) (trees place.revision place.path)
+placed_entry trees place = by (trees place.revision place.path)
+  where
+    part : Subtree
+    part = reported_subtree place.revision place.starts_empty place.depth place.token
+
+    by : (o : Option Entry) → option_map (λ (h : ReportedEntry). h.entry) (option_map (λ e. reported_as part part.depth part.token (top_entry part.starts_empty e)) o) ≡ option_map (top_entry place.starts_empty) o
+    by None = refl
+    by (Some e) = refl
+
+-- what is had in scope
+pub old_known : (c : RepoState) (report : WholeReport) (p : PathValue) (place : ReportedPlace) (had : Had) → IsHadAt c report p (Some place) → drive_scope c report p ≡ true
+    → (had.place.revision ≡ place.revision) × (had.place.path.now ≡ place.path) × (had.starts_empty ≡ place.starts_empty) → old_tree c report p ≡ entry_had c had
+old_known c report p place had so scope same =
+    ap (λ b. cond b (client_entries c report p) None) scope
+    ∙ ap (option_map (λ (h : ReportedEntry). h.entry)) so.here
+    ∙ placed_entry (trees_in c.revisions) place
+    ∙ ap (λ b. option_map (top_entry b) (trees_in c.revisions place.revision place.path)) (sym same.2)
+    ∙ ap (λ n. option_map (top_entry had.starts_empty) (trees_in c.revisions n place.path)) (sym same.0)
+    ∙ ap (λ q. option_map (top_entry had.starts_empty) (trees_in c.revisions had.place.revision q)) (sym same.1)
+
+-- nothing is nothing within a scope
+within_none : (b : Bool) (o : Option Entry) → o ≡ None → cond b o None ≡ None
+within_none true o h = h
+within_none false o h = refl
+
+-- where nothing comes from anywhere, nothing is had
+pub none_known : (c : RepoState) (report : WholeReport) (p : PathValue) → IsHadAt c report p None → old_tree c report p ≡ None
+none_known c report p so = within_none (drive_scope c report p) (client_entries c report p) (ap (option_map (λ (h : ReportedEntry). h.entry)) so.here)
+
+-- what is to be in scope, if something is
+pub new_known : (c : RepoState) (report : WholeReport) (p : PathValue) (known : DriveKnown) → IsKnownOf c report known p → drive_scope c report p ≡ true → is_some (target_entries c report p) ≡ true
+    → new_tree c report p ≡ trees_in c.revisions report.ask.revision known.goal
+new_known c report p known so scope some =
+    ap (λ b. cond b (target_entries c report p) None) scope
+    ∙ led
+    ∙ entry_stands c report p so.under (sym (ap is_some led) ∙ some)
+    ∙ ap (trees_in c.revisions report.ask.revision) (sym so.led.goal)
+  where
+    led : target_entries c report p ≡ (aim_at c report p).entry
+    led = ap (λ b. cond b (aim_at c report p).entry None) so.under
