@@ -16,7 +16,7 @@ from multiprocessing import Event, Pipe, Process, Value
 from pathlib import Path
 
 import spelling
-from spelling import ANONYMOUS, CLOSE_EDIT, CRAM_MD5, LATEST, TEXTS, greeting_answer, proof
+from spelling import ANONYMOUS, CLOSE_EDIT, CRAM_MD5, LATEST, OF_PATHS, OF_TODAY, TEXTS, greeting_answer, proof
 
 USERS = {"alice": b"secret", "bob": b"hidden"}
 NAME = "r"
@@ -106,8 +106,17 @@ class ItemStream:
         return len(self.lists) == 1 and not self.bytes
 
 
+def is_message(number, message):
+    """Whether a refusal of a number may have this message: its text and, to a client of today, the path, if it is of one."""
+    text = TEXTS.get(number, "").encode()
+    front, colon, path = message.partition(b": /")
+    if not colon:
+        return message == text
+    return front == text and number in OF_PATHS and not {b"", b".", b".."}.intersection(path.split(b"/") if path else [])
+
+
 def failure_of(item):
-    """The number and the text of a refusal, if an item is one. One that is not in the table is ill formed."""
+    """The number and the text of a refusal, if an item is one. One that is not in the table is ill formed. The path is left out."""
     if not isinstance(item, list) or len(item) != 2 or item[0] != "failure" or not isinstance(item[1], list):
         return None
     inner = item[1]
@@ -115,9 +124,27 @@ def failure_of(item):
         return 0, inner[0].decode()
     if len(inner) == 1 and isinstance(inner[0], list) and len(inner[0]) == 4:
         number, text, file, line = inner[0]
-        if file == b"" and line == 0 and TEXTS.get(number, "").encode() == text:
+        if file == b"" and line == 0 and is_message(number, text):
             return number, TEXTS[number]
     raise IllFormed(f"a refusal that no table has: {item}")
+
+
+def is_reason(item):
+    """Whether an item is a failure of a client's own links, by which a drive ends that a client of today could not take."""
+    if not isinstance(item, list) or len(item) != 2 or item[0] != "failure" or not isinstance(item[1], list):
+        return False
+    return all(isinstance(link, list) and list(map(type, link)) == [int, bytes, bytes, int] for link in item[1])
+
+
+def failures_of(found, before):
+    """The refusals among these items, the item before them, and the last of them."""
+    failures = []
+    for item in found:
+        is_of_drive = before == ["abort-edit", []] and is_reason(item)
+        if failure := (0, "a drive, for the client's own reason") if is_of_drive else failure_of(item):
+            failures.append(failure)
+        before = item
+    return failures, before
 
 
 def connect(port, timeout=60, address=None):
@@ -132,14 +159,18 @@ class Tally:
 
 
 class Client:
-    """A plain client: a connection, and the items that come. What it sends is counted in a tally, which others may share."""
+    """A plain client, one of today if that is said: a connection, and the items that come. What it sends is counted in a tally, which
+    others may share."""
 
-    def __init__(self, port, user=None, url=URL, timeout=60, address=None, password=None, tally=None):
+    is_of_today = False
+
+    def __init__(self, port, user=None, url=URL, timeout=60, address=None, password=None, tally=None, is_of_today=False):
         self.socket = connect(port, timeout, address)
         self.socket.setsockopt(socket.IPPROTO_TCP, socket.TCP_NODELAY, 1)
         self.stream = ItemStream()
         self.waiting = []
         self.tally = tally or Tally()
+        self.is_of_today = is_of_today
         try:
             self.log_in(user, url, password)
         except BaseException:
@@ -151,7 +182,7 @@ class Client:
         self.greeting = self.item()
         if self.greeting[0] != "success":
             raise Ended(f"the server greets by {self.greeting}")
-        self.send(greeting_answer(url))
+        self.send(greeting_answer(url, capabilities=OF_TODAY) if self.is_of_today else greeting_answer(url))
         self.succeed()
         if user is None:
             self.send(ANONYMOUS)
@@ -228,7 +259,7 @@ def read_until_end(client, content, limit, cuts=(), closes=True):
     """Sends bytes, cut at some places, while it reads what comes; then the client's side is closed, and what comes is read up to
     its end. Gives the stream, the refusals, how many bytes came, and how it ended: `closed`, or `reset`; or `late`, where the
     limit of seconds has passed first."""
-    stream, failures, came = ItemStream(), [], 0
+    stream, failures, came, before = ItemStream(), [], 0, None
     pieces = [content[begin:end] for begin, end in zip([0, *cuts], [*cuts, len(content)])]
     pending, behind = memoryview(b""), iter(pieces)
     is_sending, end = True, time.monotonic() + limit
@@ -254,7 +285,8 @@ def read_until_end(client, content, limit, cuts=(), closes=True):
                 if not piece:
                     return stream, failures, came, "closed"
                 came += len(piece)
-                failures += filter(None, map(failure_of, stream.feed(piece)))
+                told, before = failures_of(stream.feed(piece), before)
+                failures += told
         except (ConnectionResetError, BrokenPipeError):
             return stream, failures, came, "reset"
     return stream, failures, came, "late"

@@ -19,6 +19,7 @@ from spelling import (
     UUID,
     add_directory,
     add_file,
+    boolean,
     close_directory,
     close_file,
     date,
@@ -58,19 +59,21 @@ COMMITTED, DATED, BY, OF, LOCK_TOKEN = (
 
 
 class Refused(Exception):
-    """A command is refused by a number."""
+    """A command is refused by a number, and at a path of the repository if the refusal is of one."""
 
-    def __init__(self, number):
+    def __init__(self, number, path=None):
         self.number = number
+        self.path = path
 
 
 class Node(NamedTuple):
     """A directory, or a file with a text. `last` is the revision of the last change at or under it, and the path at which
-    that mark was made."""
+    that mark was made; `line` the revision and the path of the add that it comes from, through changes and copies."""
 
     text: Optional[bytes]
     properties: tuple
     last: tuple
+    line: Optional[tuple] = None
 
 
 class Revisions:
@@ -164,10 +167,12 @@ class Had(NamedTuple):
 
 
 class Aim(NamedTuple):
-    """Where a path is led: the path of the repository that it is to stand for, and what is to be there."""
+    """Where a path is led: the path of the repository that it is to stand for, what is to be there, and whether what the client
+    has there stays."""
 
     place: str
     node: Optional[Node]
+    stays: bool
 
 
 def depth_below(depth):
@@ -177,16 +182,21 @@ def depth_below(depth):
 
 class Report:
     """A report, from the command that begins it to its end. Each method is a command of it, is kept as it is spelled, and
-    changes what the client has, or is refused. The first refusal is kept, and answers in the end."""
+    changes what the client has, or is refused. The first refusal is kept with its path, and answers in the end."""
 
     def __init__(
-        self, revisions, purpose="update", target="", revision=None, *, anchor="", url=None, recurse=True, depth=None, of_today=False
+        self, revisions, purpose="update", target="", revision=None, *, anchor="", url=None, recurse=True, depth=None, of_today=False,
+        ignores_ancestry=None
     ):
         self.revisions = revisions
         self.purpose = purpose
         self.of_today = of_today
+        # it is said after a depth, and not in a status; where nothing is said of it, it counts but in a switch
+        self.says_of_ancestry = None if depth is None or purpose == "status" else ignores_ancestry
+        self.ignores_ancestry = purpose == "switch" if self.says_of_ancestry is None else self.says_of_ancestry
         self.anchor = anchor
         self.refusal = None
+        self.refused_at = None
         self.first = None
         # each path that was reported, with the path of the repository that it stands for, and whether it is a link, in their order
         self.places = []
@@ -198,10 +208,11 @@ class Report:
         """The command that begins it."""
         number = b"" if revision is None else b"%d " % revision
         word = b"" if depth is None else depth.encode() + b" "
+        ancestry = b"" if self.says_of_ancestry is None else b"false " + boolean(self.says_of_ancestry)
         if self.purpose == "update":
-            return update(target, number, recurse, word and word + b"false ")
+            return update(target, number, recurse, word and word + (ancestry or b"false "))
         if self.purpose == "switch":
-            return switch(url, target, number, recurse, word)
+            return switch(url, target, number, recurse, word and word + ancestry)
         told = b"" if revision is None and not word else b"( " + number + b") "
         return status(target, recurse, told + word)
 
@@ -222,6 +233,7 @@ class Report:
                 act()
             except Refused as refused_by:
                 self.refusal = refused_by.number
+                self.refused_at = refused_by.path
 
     def known(self, revision):
         """A revision that is there."""
@@ -274,11 +286,11 @@ class Report:
             raise Refused(NOT_SUPPORTED)
         depth = depth or "infinity"
         if path != self.target and not self.is_directory(parent_of(path)):
-            raise Refused(NOT_FOUND)
+            raise Refused(NOT_FOUND, joined(self.anchor, path))
         tree = self.revisions.trees[revision]
         may_lack = self.first is None and self.target != ""
         if source not in tree and not may_lack:
-            raise Refused(NOT_FOUND)
+            raise Refused(NOT_FOUND, source)
         self.put(path, source, url is not None)
         for place, node in tree.items():
             if place == source:
@@ -354,9 +366,12 @@ class Report:
             place = own if link is None else link
             had = self.had[path].node if counts and path in self.had else None
             node = tree.get(place) if is_in_directory else None
-            stays = had is not None and kind_of(had) == kind_of(node)
+            is_of_one_kind = had is not None and kind_of(had) == kind_of(node)
+            # the top of a link and the root stay, of any line
+            may_change_line = self.ignores_ancestry or link is not None or path == ""
+            stays = is_of_one_kind and (may_change_line or had.line == node.line)
             # a link goes where nothing of its kind is
-            aims[path] = Aim(place, node if link is None or stays else None)
+            aims[path] = Aim(place, node if link is None or is_of_one_kind else None, stays)
             there = {beyond(other, path) for other in [*self.had, *(top for top, _, _ in self.places)] if is_at_or_under(other, path)}
             there |= {beyond(other, place) for other in tree if is_at_or_under(other, place)}
             for name in {rest.split("/")[0] for rest in there if rest}:
@@ -426,18 +441,33 @@ class Report:
             has_anchor = kind_of(tree.get(self.goal)) == "dir" and self.is_directory("")
         return None if has_goal and has_anchor else NOT_FOUND
 
+    def refusal_told(self):
+        """What is told where there is no drive: a client of today, at which path what is not there is not there; of what is
+        refused at the end that is the goal."""
+        number = self.end_refusal()
+        path = self.goal if self.refusal is None else self.refused_at
+        return refused(number, "/" + path if self.of_today and number == NOT_FOUND else None)
+
     def finished(self):
         """How a client ends it, and what it is told: a drive, or why there is none."""
-        number = self.end_refusal()
-        return FINISH_REPORT, refused(number) if number else NO_LOGIN + b"".join(Drive(self).commands)
+        return FINISH_REPORT, self.refusal_told() if self.end_refusal() else NO_LOGIN + b"".join(Drive(self).commands)
 
     def aborted(self):
         """How a client gives it up, and what it is told."""
         return ABORT_REPORT, b""
 
+    def is_apart(self, path):
+        """Whether what the client has is not to stay: it is of another kind than what is to be there, or of another line."""
+        if path not in self.old:
+            return False
+        if self.of_today:
+            return not self.aims[path].stays
+        return kind_of(self.old[path].node) != kind_of(self.new.get(path))
+
     def is_stale(self, path):
-        """Whether the client has a token of an entry that it is to have, and no lock there has that token."""
-        token = self.old[path].token if path in self.old else None
+        """Whether the client has a token of an entry that it is to have, and no lock there has that token. A client of today is told
+        so of an entry that stays: while it takes in one that is added, it finds none to take the token from."""
+        token = self.old[path].token if path in self.old and not (self.of_today and self.is_apart(path)) else None
         place = self.aims[path].place if self.of_today else joined(self.goal, beyond(path, self.target))
         return token is not None and path in self.new and self.revisions.tokens.get(place) != token
 
@@ -445,7 +475,7 @@ class Report:
         """What is wrong with an answer to the end of this report, a line each."""
         number = self.end_refusal()
         if number or not told.startswith(NO_LOGIN):
-            return [] if number and told == refused(number) else ["it is not told what it should be"]
+            return [] if number and told == self.refusal_told() else ["it is not told what it should be"]
         return Judge(self, told[len(NO_LOGIN) :]).complaints
 
 
@@ -491,7 +521,7 @@ class Drive:
             return new is not had
         old = had.node
         is_same = (old.text, old.properties, old.last[0]) == (new.text, new.properties, new.last[0])
-        return not is_same or self.report.is_stale(path)
+        return not is_same or self.report.is_stale(path) or self.report.is_apart(path)
 
     def children(self, path):
         """The paths of what stands in a directory now or then, by the bytes of the names."""
@@ -506,12 +536,12 @@ class Drive:
         """What is to be told of these entries of a directory."""
         for path in paths:
             old = self.old(path, is_anew)
-            if old and kind_of(old) != kind_of(self.tree.get(path)):
+            if old and (path not in self.tree or self.report.is_apart(path)):
                 self.commands.append(delete_entry(path, token))
         for path in paths:
             if path in self.tree and (is_anew or path in self.named):
                 old = self.old(path, is_anew)
-                self.entry(path, token, old is None or kind_of(old) != kind_of(self.tree[path]))
+                self.entry(path, token, old is None or self.report.is_apart(path))
 
     def entry(self, path, parent, is_anew):
         """What is to be told at a path and under it."""
@@ -754,11 +784,13 @@ class Judge:
             is_in_both = path in old and path in new
             is_due = is_in_both and (old[path].last[0] != new[path].last[0] or report.is_stale(path))
             self.judge(path in self.named or not is_due, f"nothing is told of it: {path!r}")
-            wants_text = path in new and new[path].text is not None and (path not in old or old[path].text != new[path].text)
+            is_other = path not in old or report.is_apart(path) or old[path].text != new[path].text
+            wants_text = path in new and new[path].text is not None and is_other
             self.judge(path in self.texts or not wants_text, f"its text is not told: {path!r}")
-            is_of_one_kind = is_in_both and kind_of(old[path]) == kind_of(new[path])
+            stays = is_in_both and not report.is_apart(path)
             is_kept = path in self.opened and path not in self.added | self.deleted
-            self.judge(path not in self.named or not is_of_one_kind or is_kept, f"it is not opened: {path!r}")
+            self.judge(path not in self.named or not stays or is_kept, f"it is not opened: {path!r}")
+            self.judge(not is_in_both or stays or path in self.added, f"it is not replaced: {path!r}")
         for path in sorted(self.named):
             reasons = (
                 old.get(place) is None
@@ -766,6 +798,7 @@ class Judge:
                 or old[place][:2] != new[place][:2]
                 or old[place].last != new[place].last
                 or report.is_stale(place)
+                or report.is_apart(place)
                 for place in {*old, *new}
                 if is_at_or_under(place, path)
             )

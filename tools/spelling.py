@@ -39,6 +39,9 @@ TEXTS = {
     210008: "edit aborted",
 }
 
+# the numbers whose text ends with a path to a client of today
+OF_PATHS = {160013, 160016, 160017, 160020, 160024, 160028, 160034, 160035, 160037, 160039, 160040, 160042}
+
 # how many bytes of a text are sent in one string, and in one window of a drive
 PIECE = 65_536
 
@@ -60,9 +63,11 @@ def string(content):
     return b"%d:%s " % (len(content), content)
 
 
-def refusal(number):
-    """A failure of one number."""
-    return b"( failure ( ( %d %s0: 0 ) ) ) " % (number, string(TEXTS[number]))
+def refusal(number, path=None):
+    """A failure of one number, and of a path if a client of today is told it."""
+    assert path is None or number in OF_PATHS and path.startswith("/"), (number, path)
+    message = TEXTS[number] if path is None else f"{TEXTS[number]}: {path}"
+    return b"( failure ( ( %d %s0: 0 ) ) ) " % (number, string(message))
 
 
 def date(moment):
@@ -110,9 +115,9 @@ def answered(content):
     return NO_LOGIN + b"( success ( " + content + b") ) "
 
 
-def refused(number):
+def refused(number, path=None):
     """What a command is told that is known and refused."""
-    return NO_LOGIN + refusal(number)
+    return NO_LOGIN + refusal(number, path)
 
 
 def dated(moment):
@@ -193,9 +198,9 @@ def locations_told(*places):
     return NO_LOGIN + b"".join(b"( %d " % revision + string(path) + b") " for revision, path in places) + DONE + EMPTY
 
 
-def listing_refused(number):
+def listing_refused(number, path=None):
     """What `log` and `get-locations` are told where they are refused: behind the end of a listing."""
-    return NO_LOGIN + DONE + refusal(number)
+    return NO_LOGIN + DONE + refusal(number, path)
 
 
 def pairs(properties):

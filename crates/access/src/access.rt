@@ -1,8 +1,10 @@
 //! A repository as a session reaches it.
 ghost use Rattle.std.specs.Prelude.{◌≡◌, ◌≤◌, true, IfOk, [], ◌∷◌, ◌++◌};
-ghost use Rattle.repo_api.specs.{Accepted.{Accepted, changed}, Soundness.AreSound, States.IsBeginning, Transactions.MayCommit};
+ghost use Rattle.repo_api.specs.{Accepted.{Accepted, changed}, Commits.IsRefusedAt, Soundness.AreSound, States.IsBeginning, Transactions.MayCommit};
 ghost use Rattle.access.specs.{Points.{Point, AccessRules, content_of}, Changing.{CommitsAt, LocksAt, UnlocksAt, ChangesPropertyAt, Happens}};
+ghost use Rattle.access.specs.Refused.{HasPath, without_path};
 
+use crate::not_committed::NotCommitted;
 use repo_api::{ChangeFault, CommitAsk, LockAsk, PropertyAsk, Repository, UnlockAsk};
 use std::alloc::AllocError;
 
@@ -47,15 +49,18 @@ pub trait RepoAccess {
     /// Makes the transaction the next revision, and then, unless the locks are to stay, releases those of
     /// the user's that were handed in, each by its path and its token: one that was stolen since then stays,
     /// and nobody changes the repository between the two. The transaction was last shown revisions that this
-    /// access has shown, its tree is a tree, and its marks name what they mark.
+    /// access has shown, its tree is a tree, and its marks name what they mark. A refusal comes with a path at which
+    /// the commit is refused, if it is at one: the repository is then as it was when it refused the commit.
     fn commit(
         &mut self,
         ask: CommitAsk,
         txn: <Self::View as Repository>::Txn,
-    ) -> Result<Committed, ChangeFault>
+    ) -> Result<Committed, NotCommitted>
         requires { MayCommit (content_of (point self.old)) (Self.View.txn_state txn) }
-        ensures { Happens rules (CommitsAt rules ask (Self.View.txn_state txn))
-            (point self.old) result (point self.new) };
+        ensures change { Happens rules (CommitsAt rules ask (Self.View.txn_state txn))
+            (point self.old) (without_path result) (point self.new) }
+        ensures path { HasPath result
+            (IsRefusedAt (content_of (point self.new)) ask (Self.View.txn_state txn)) };
 
     /// Locks the path of a file, in place of a lock that stands there if that may be stolen.
     fn lock(&mut self, ask: LockAsk) -> Result<(), ChangeFault>

@@ -1,9 +1,11 @@
 //! An access in two parts: one looks, and has nothing by which it could wait, and one changes.
 ghost use Rattle.std.specs.Prelude.{◌≡◌, ◌≤◌, true, IfOk, [], ◌∷◌, ◌++◌};
-ghost use Rattle.repo_api.specs.{Accepted.{Accepted, changed}, Soundness.AreSound, States.IsBeginning, Transactions.MayCommit};
+ghost use Rattle.repo_api.specs.{Accepted.{Accepted, changed}, Commits.IsRefusedAt, Soundness.AreSound, States.IsBeginning, Transactions.MayCommit};
 ghost use Rattle.access.specs.{Points.{Point, AccessRules, content_of}, Changing.{CommitsAt, LocksAt, UnlocksAt, ChangesPropertyAt, Happens}};
+ghost use Rattle.access.specs.Refused.{HasPath, without_path};
 
 use crate::access::{Committed, RepoAccess, SharedAccess};
+use crate::not_committed::NotCommitted;
 use repo_api::{ChangeFault, CommitAsk, LockAsk, PropertyAsk, Repository, UnlockAsk};
 use std::alloc::AllocError;
 
@@ -66,10 +68,12 @@ pub trait Changes<L: Looks> {
         looks: &mut L,
         ask: CommitAsk,
         txn: <L::View as Repository>::Txn,
-    ) -> Result<Committed, ChangeFault>
+    ) -> Result<Committed, NotCommitted>
         requires { MayCommit (content_of (L.point looks.old)) (L.View.txn_state txn) }
-        ensures { Happens L.rules (CommitsAt L.rules ask (L.View.txn_state txn))
-            (L.point looks.old) result (L.point looks.new) };
+        ensures change { Happens L.rules (CommitsAt L.rules ask (L.View.txn_state txn))
+            (L.point looks.old) (without_path result) (L.point looks.new) }
+        ensures path { HasPath result
+            (IsRefusedAt (content_of (L.point looks.new)) ask (L.View.txn_state txn)) };
 
     /// Locks the path of a file, in place of a lock that stands there if that may be stolen.
     fn lock(&mut self, looks: &mut L, ask: LockAsk) -> Result<(), ChangeFault>
@@ -133,7 +137,7 @@ impl<L: Looks + Drop, C: Changes<L> + Drop> RepoAccess for SplitAccess<L, C> {
         &mut self,
         ask: CommitAsk,
         txn: <L::View as Repository>::Txn,
-    ) -> Result<Committed, ChangeFault> {
+    ) -> Result<Committed, NotCommitted> {
         self.changes.commit(&mut self.looks, ask, txn)
     }
 

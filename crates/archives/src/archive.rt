@@ -38,9 +38,10 @@ pub trait Archive<R: Repository>: Files + Drop {
     ghost writes: { Self → Self.Unsaved → Accepted → Type 0 };
 
     /// Makes the transaction the next revision.
-    fn committed(&self, ask: CommitAsk, txn: R::Txn) -> Result<(R, Self::Unsaved), ChangeFault>
-        requires { MayCommit (Self.kept self.now).content (R.txn_state txn) }
-        ensures { Prepares Self.kept writes R.content (Commits ask (R.txn_state txn)) self.now result };
+    fn committed(&self, ask: &CommitAsk, txn: &R::Txn) -> Result<(R, Self::Unsaved), ChangeFault>
+        requires { MayCommit (Self.kept self.now).content (R.txn_state txn.now) }
+        ensures { Prepares Self.kept writes R.content (Commits ask.now (R.txn_state txn.now))
+            self.now result };
 
     /// Locks the path of a file, in place of a lock that stands there if that may be stolen.
     fn locked(&self, ask: LockAsk) -> Result<(R, Self::Unsaved), ChangeFault>

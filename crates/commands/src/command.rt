@@ -141,10 +141,10 @@ pub enum ReadCommand {
 #[derive(Drop)]
 pub enum DriveCommand {
     /// What leads from what the client has to a revision:
-    /// `( update ( [ rev ] target recurse ? depth send-copyfrom ) )`.
+    /// `( update ( [ rev ] target recurse ? depth send-copyfrom ignore-ancestry ) )`.
     Update(DriveRequest),
     /// What leads from what the client has to what stands at another URL:
-    /// `( switch ( [ rev ] target recurse url ? depth ) )`.
+    /// `( switch ( [ rev ] target recurse url ? depth send-copyfrom ignore-ancestry ) )`.
     Switch(DriveRequest, ByteString),
     /// What an update would bring, without the texts:
     /// `( status ( target recurse ? [ rev ] ? depth ) )`.

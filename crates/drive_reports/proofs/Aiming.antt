@@ -1,14 +1,14 @@
 -- Where a report leads each path: one name after another, and what holds of each.
-use Rattle.std.proofs.Common.{◌≡◌, ◌+◌, ◌<◌, arith, Bool, true, false, cond, ◌&&◌, not, List, [], ◌∷◌, ◌++◌, length, drop, Option, Some, None, option_map}
+use Rattle.std.proofs.Common.{◌≡◌, ◌+◌, ◌<◌, arith, Bool, true, false, cond, ◌&&◌, ◌||◌, not, List, [], ◌∷◌, ◌++◌, length, drop, Option, Some, None, option_map}
 use Rattle.std.proofs.{Common.{refl, sym, ap, ◌∙◌, subst, ◌⊎◌, inl, inr, ⊎_elim, if◌then◌else◌}, lemmas.Bool.false≢true, lemmas.List.{append_assoc, append-nil, length-append}}
 use Rattle.std.specs.{List.list_any, Prelude.{IsTrue, IsSomeAnd, is_some, map}}
 use Rattle.svnpath.specs.{PathLaws.{rest_append, same_path_refl, under_append, under_is, under_itself}, Paths.{Component, is_at_or_under, PathValue, same_path}}
 use Rattle.repo_api.specs.{States.{RepoState, trees_in}, Trees.{HasDirectory, is_directory, is_directory_there, Tree}, declared.entry.Entry.Entry}
 use Rattle.small_rules.specs.GivingWay.{gives_way}
 use Rattle.drive_rules.specs.Scopes.{below, HoldsTogether}
-use Rattle.drive_rules.proofs.Entries.{below_apart, below_under, under_more}
-use Rattle.drive_reports.specs.{Aims.{Aim, aim_at, aim_below, aim_in, aim_of, aim_today, are_of_one_kind, entry_led, top_aim}, Links.{led_to, link_at}, Places.AllHoldTogether}
-use Rattle.drive_reports.specs.{Reported.ReportedEntry, Targets.{client_entries, target_entries}, Wholes.{WholeReport, client_tree, goal_path}, declared.graft.Graft.Graft}
+use Rattle.drive_rules.proofs.{Entries.{below_apart, below_under, under_more}, Joined.and_front}
+use Rattle.drive_reports.specs.{Aims.{Aim, aim_at, aim_below, aim_in, aim_of, aim_today, are_of_one_kind, counts_ancestry, entry_led, is_of_line, keeps_line, may_change_line, top_aim}, Links.{led_to, link_at}, Places.AllHoldTogether}
+use Rattle.drive_reports.specs.{Reported.ReportedEntry, Targets.{client_entries, target_entries}, Wholes.{WholeReport, client_tree, goal_path}, declared.ask.DriveAsk.DriveAsk, declared.graft.Graft.Graft}
 use Rattle.drive_reports.proofs.{Holding.{all_hold, longer_below}, Linking.{link_among, unlinked_beneath, unlinked_other, unlinked_root}}
 
 -- ---- paths
@@ -101,6 +101,36 @@ led_entry (Some l) old there = by (are_of_one_kind old there)
     by true = inr refl
     by false = inl refl
 
+-- ---- lines of history
+
+and_true : (b : Bool) → (b && true) ≡ b
+and_true true = refl
+and_true false = refl
+
+or_true : (a b : Bool) → (a || b || true) ≡ true
+or_true true b = refl
+or_true false true = refl
+or_true false false = refl
+
+-- what a client of the other kind has may be of any line
+free_other : (ask : DriveAsk) (link : Option Graft) (p : PathValue) → ask.is_of_today ≡ false → may_change_line ask link p ≡ true
+free_other ask link p other = ap (λ b. not (b && not ask.ignores_ancestry) || is_some link || same_path p []) other
+
+-- and so may the root
+free_root : (ask : DriveAsk) (link : Option Graft) (p : PathValue) → p ≡ [] → may_change_line ask link p ≡ true
+free_root ask link p root =
+    ap (λ x. not (counts_ancestry ask) || is_some link || same_path x []) root
+    ∙ or_true (not (counts_ancestry ask)) (is_some link)
+
+unnested : (a b : Bool) → ((a || false || false) || b) ≡ (a || b)
+unnested true b = refl
+unnested false b = refl
+
+-- no path beneath another is the root
+not_root : (p : PathValue) (x : Component) (rest : List Component) → same_path (p ++ x ∷ rest) [] ≡ false
+not_root [] x rest = refl
+not_root (d ∷ p) x rest = refl
+
 -- ---- where paths come from
 
 -- a path is the target, or that of a graft
@@ -169,7 +199,14 @@ module _ (c : RepoState) (report : WholeReport) where
       ∙ ap (λ l. entry_led l (Had q) (There (led_to (goal_path report.ask q) l))) (unlinked_other report.ask report.grafts true q h)
 
   pub other_stays : (q : PathValue) → report.ask.is_of_today ≡ false → (At q).stays ≡ are_of_one_kind (Had q) (At q).entry
-  other_stays q h = ap (λ (a : Aim). a.stays) (at_other q h) ∙ ap (λ (a : Aim). are_of_one_kind (Had q) a.entry) (sym (at_other q h))
+  other_stays q h =
+      ap (λ (a : Aim). a.stays) (at_other q h)
+      ∙ ap (λ m. are_of_one_kind (Had q) Aimed.entry && (m || is_of_line c report.ask (client_tree c report q) Aimed.from)) (free_other report.ask (Led true q) q h)
+      ∙ and_true (are_of_one_kind (Had q) Aimed.entry)
+      ∙ ap (λ (a : Aim). are_of_one_kind (Had q) a.entry) (sym (at_other q h))
+    where
+      Aimed : Aim
+      Aimed = aim_of c report true true q (goal_path report.ask q)
 
   goal_more : (p rest : PathValue) → is_at_or_under p Top ≡ true → goal_path report.ask (p ++ rest) ≡ goal_path report.ask p ++ rest
   goal_more p rest up = ap (λ r. report.ask.goal ++ r) (drop_more p Top rest up) ∙ sym (append_assoc report.ask.goal (drop (length Top) p) rest)
@@ -249,17 +286,26 @@ module _ (c : RepoState) (report : WholeReport) where
   pub stays_kind : (q : PathValue) → is_at_or_under q Top ≡ true → (At q).stays ≡ true → are_of_one_kind (Had q) (At q).entry ≡ true
   stays_kind =
       at_each (λ q a. a.stays ≡ true → are_of_one_kind (Had q) a.entry ≡ true)
-      (λ counts directory p own stays. and_behind counts _ (sym (counted counts p (aim_of c report counts directory p own).entry) ∙ stays))
+      (λ counts directory p own stays. and_behind counts _ (sym (counted counts p (aim_of c report counts directory p own).entry) ∙ and_front _ _ stays))
 
   pub stays_entry : (q : PathValue) → is_at_or_under q Top ≡ true → (At q).stays ≡ true → (At q).entry ≡ There (At q).from
   stays_entry q up stays = entry_stands q up (kind_there (Had q) (At q).entry (stays_kind q up stays)).1
 
-  -- and so is what is in a directory, where that stays
+  -- what is had at a path may stay, by the lines of history alone
+  abbrev pub Line : PathValue → PathValue → Bool
+  Line q from = keeps_line c report.ask (Led true q) q (client_tree c report q) from
+
+  stays_by : (counts directory : Bool) (q own : PathValue)
+      → (aim_of c report counts directory q own).stays ≡ (counts && are_of_one_kind (Had q) (aim_of c report counts directory q own).entry && Line q (aim_of c report counts directory q own).from)
+  stays_by true directory q own = refl
+  stays_by false directory q own = refl
+
+  -- and so does what is in a directory, where that stays
   pub stays_next : (p : PathValue) (x : Component) → is_at_or_under p Top ≡ true
-      → (At (p ++ x ∷ [])).stays ≡ (counts_in (At p) && are_of_one_kind (Had (p ++ x ∷ [])) (At (p ++ x ∷ [])).entry)
+      → (At (p ++ x ∷ [])).stays ≡ (counts_in (At p) && are_of_one_kind (Had (p ++ x ∷ [])) (At (p ++ x ∷ [])).entry && Line (p ++ x ∷ []) (At (p ++ x ∷ [])).from)
   stays_next p x up =
-      ap (λ (a : Aim). a.stays) child ∙ counted (counts_in (At p)) (p ++ x ∷ []) (aim_of c report (counts_in (At p)) (may_stand_in (At p)) (p ++ x ∷ []) ((At p).from ++ x ∷ [])).entry
-      ∙ ap (λ (a : Aim). counts_in (At p) && are_of_one_kind (Had (p ++ x ∷ [])) a.entry) (sym child)
+      ap (λ (a : Aim). a.stays) child ∙ stays_by (counts_in (At p)) (may_stand_in (At p)) (p ++ x ∷ []) ((At p).from ++ x ∷ [])
+      ∙ ap (λ (a : Aim). counts_in (At p) && are_of_one_kind (Had (p ++ x ∷ [])) a.entry && Line (p ++ x ∷ []) a.from) (sym child)
     where
       child : At (p ++ x ∷ []) ≡ aim_of c report (counts_in (At p)) (may_stand_in (At p)) (p ++ x ∷ []) ((At p).from ++ x ∷ [])
       child = aim_child p x up
@@ -371,22 +417,48 @@ module _ (c : RepoState) (report : WholeReport) where
             ∙ ap (λ (a : Aim). There (a.from ++ rest)) (sym (at_today p h))
         by false h = other_entry (p ++ rest) h ∙ ap There (goal_more p rest up ∙ ap (λ f. f ++ rest) (sym (other_from p h)))
 
+    -- of no path beneath has the line to be another for a link, or at the root
+    pub line_beneath : (x : Component) (rest : List Component) → is_at_or_under p Top ≡ true
+        → Line (p ++ x ∷ rest) (At (p ++ x ∷ rest)).from ≡ (not (counts_ancestry report.ask) || is_of_line c report.ask (client_tree c report (p ++ x ∷ rest)) ((At p).from ++ x ∷ rest))
+    line_beneath x rest up =
+        ap (λ l. keeps_line c report.ask l (p ++ x ∷ rest) (client_tree c report (p ++ x ∷ rest)) (At (p ++ x ∷ rest)).from)
+        (unlinked_beneath report.ask report.grafts true p (p ++ x ∷ rest) none low)
+        ∙ ap (λ r. (not (counts_ancestry report.ask) || false || r) || is_of_line c report.ask (client_tree c report (p ++ x ∷ rest)) (At (p ++ x ∷ rest)).from) (not_root p x rest)
+        ∙ ap (λ f. (not (counts_ancestry report.ask) || false || false) || is_of_line c report.ask (client_tree c report (p ++ x ∷ rest)) f) (from_beneath (x ∷ rest) up)
+        ∙ unnested (not (counts_ancestry report.ask)) (is_of_line c report.ask (client_tree c report (p ++ x ∷ rest)) ((At p).from ++ x ∷ rest))
+      where
+        some_more : 0 < length (x ∷ rest)
+        some_more = omega arith
+
+        low : below p (p ++ x ∷ rest) ≡ true
+        low = longer_below p (p ++ x ∷ rest) (omega (length-append p (x ∷ rest), some_more, arith)) (under_append p (x ∷ rest))
+
   -- ---- what stays beneath a path
 
-  -- where the same is had and is to be beneath two paths, the same stays
+  -- the line of what is beneath a path
+  abbrev pub keeps_line_in : PathValue → Component → List Component → Bool
+  keeps_line_in p x rest = Line (p ++ x ∷ rest) (At (p ++ x ∷ rest)).from
+
+  line_further : (p : PathValue) (x y : Component) (rest : List Component) → keeps_line_in (p ++ x ∷ []) y rest ≡ keeps_line_in p x (y ∷ rest)
+  line_further p x y rest = ap (λ q. Line q (At q).from) (append_assoc p (x ∷ []) (y ∷ rest))
+
+  -- where the same is had and is to be beneath two paths, and lines let the same stay, the same stays
   pub same_stays : (p q : PathValue) (rest : List Component) → is_at_or_under p Top ≡ true → is_at_or_under q Top ≡ true
-      → ((r : List Component) → Had (p ++ r) ≡ Had (q ++ r)) → ((r : List Component) → (At (p ++ r)).entry ≡ (At (q ++ r)).entry) → (At p).stays ≡ (At q).stays
+      → ((r : List Component) → Had (p ++ r) ≡ Had (q ++ r)) → ((r : List Component) → (At (p ++ r)).entry ≡ (At (q ++ r)).entry)
+      → ((y : Component) (r : List Component) → keeps_line_in p y r ≡ keeps_line_in q y r) → (At p).stays ≡ (At q).stays
       → (At (p ++ rest)).stays ≡ (At (q ++ rest)).stays
-  same_stays p q [] up uq had led same = ap (λ x. (At x).stays) (append-nil p) ∙ same ∙ sym (ap (λ x. (At x).stays) (append-nil q))
-  same_stays p q (x ∷ rest) up uq had led same =
+  same_stays p q [] up uq had led lines same = ap (λ x. (At x).stays) (append-nil p) ∙ same ∙ sym (ap (λ x. (At x).stays) (append-nil q))
+  same_stays p q (x ∷ rest) up uq had led lines same =
       sym (ap (λ y. (At y).stays) (append_assoc p (x ∷ []) rest))
       ∙ same_stays (p ++ x ∷ []) (q ++ x ∷ []) rest (child_up Top p x up) (child_up Top q x uq)
       (λ r. ap Had (append_assoc p (x ∷ []) r) ∙ had (x ∷ r) ∙ sym (ap Had (append_assoc q (x ∷ []) r)))
       (λ r. ap (λ y. (At y).entry) (append_assoc p (x ∷ []) r) ∙ led (x ∷ r) ∙ sym (ap (λ y. (At y).entry) (append_assoc q (x ∷ []) r)))
+      (λ y r. line_further p x y r ∙ lines x (y ∷ r) ∙ sym (line_further q x y r))
       (stays_next p x up
-      ∙ ap (λ b. (if report.ask.is_of_today then b else true) && are_of_one_kind (Had (p ++ x ∷ [])) (At (p ++ x ∷ [])).entry) same
-      ∙ ap (λ o. counts_in (At q) && are_of_one_kind o (At (p ++ x ∷ [])).entry) (had (x ∷ []))
-      ∙ ap (λ o. counts_in (At q) && are_of_one_kind (Had (q ++ x ∷ [])) o) (led (x ∷ []))
+      ∙ ap (λ b. (if report.ask.is_of_today then b else true) && are_of_one_kind (Had (p ++ x ∷ [])) (At (p ++ x ∷ [])).entry && keeps_line_in p x []) same
+      ∙ ap (λ o. counts_in (At q) && are_of_one_kind o (At (p ++ x ∷ [])).entry && keeps_line_in p x []) (had (x ∷ []))
+      ∙ ap (λ o. counts_in (At q) && are_of_one_kind (Had (q ++ x ∷ [])) o && keeps_line_in p x []) (led (x ∷ []))
+      ∙ ap (λ l. counts_in (At q) && are_of_one_kind (Had (q ++ x ∷ [])) (At (q ++ x ∷ [])).entry && l) (lines x [])
       ∙ sym (stays_next q x uq))
       ∙ ap (λ y. (At y).stays) (append_assoc q (x ∷ []) rest)
 
@@ -400,19 +472,23 @@ module _ (c : RepoState) (report : WholeReport) where
       some_more : 0 < length (x ∷ rest)
       some_more = omega arith
 
-  -- where the same is had and is to be beneath a path that stays, all stays
+  -- where the same is had and is to be beneath a path that stays, and lines let it, all stays
   pub all_stay : AllHoldTogether c.revisions → (p : PathValue) (rest : List Component) → is_at_or_under p Top ≡ true
-      → ((r : List Component) → Had (p ++ r) ≡ (At (p ++ r)).entry) → (At p).stays ≡ true → is_some (Had (p ++ rest)) ≡ true → (At (p ++ rest)).stays ≡ true
-  all_stay together p [] up same stays some = ap (λ x. (At x).stays) (append-nil p) ∙ stays
-  all_stay together p (x ∷ rest) up same stays some =
+      → ((r : List Component) → Had (p ++ r) ≡ (At (p ++ r)).entry)
+      → ((y : Component) (r : List Component) → is_some (Had (p ++ y ∷ r)) ≡ true → keeps_line_in p y r ≡ true)
+      → (At p).stays ≡ true → is_some (Had (p ++ rest)) ≡ true → (At (p ++ rest)).stays ≡ true
+  all_stay together p [] up same lines stays some = ap (λ x. (At x).stays) (append-nil p) ∙ stays
+  all_stay together p (x ∷ rest) up same lines stays some =
       sym (ap (λ y. (At y).stays) (append_assoc p (x ∷ []) rest))
       ∙ all_stay together (p ++ x ∷ []) rest (child_up Top p x up)
       (λ r. ap Had (append_assoc p (x ∷ []) r) ∙ same (x ∷ r) ∙ sym (ap (λ y. (At y).entry) (append_assoc p (x ∷ []) r)))
+      (λ y r has. line_further p x y r ∙ lines x (y ∷ r) (ap (λ q. is_some (Had q)) (sym (append_assoc p (x ∷ []) (y ∷ r))) ∙ has))
       (stays_next p x up
-      ∙ ap (λ b. (if report.ask.is_of_today then b else true) && are_of_one_kind (Had (p ++ x ∷ [])) (At (p ++ x ∷ [])).entry) stays
-      ∙ ap (λ b. b && are_of_one_kind (Had (p ++ x ∷ [])) (At (p ++ x ∷ [])).entry) (either report.ask.is_of_today)
-      ∙ ap (λ o. are_of_one_kind (Had (p ++ x ∷ [])) o) (sym (same (x ∷ [])))
-      ∙ same_kind (Had (p ++ x ∷ [])) (had_above together (p ++ x ∷ []) rest (child_up Top p x up) there))
+      ∙ ap (λ b. (if report.ask.is_of_today then b else true) && are_of_one_kind (Had (p ++ x ∷ [])) (At (p ++ x ∷ [])).entry && keeps_line_in p x []) stays
+      ∙ ap (λ b. b && are_of_one_kind (Had (p ++ x ∷ [])) (At (p ++ x ∷ [])).entry && keeps_line_in p x []) (either report.ask.is_of_today)
+      ∙ ap (λ o. are_of_one_kind (Had (p ++ x ∷ [])) o && keeps_line_in p x []) (sym (same (x ∷ [])))
+      ∙ ap (λ b. b && keeps_line_in p x []) (same_kind (Had (p ++ x ∷ [])) here)
+      ∙ lines x [] here)
       there
     where
       either : (b : Bool) → (if b then true else true) ≡ true
@@ -421,6 +497,9 @@ module _ (c : RepoState) (report : WholeReport) where
 
       there : is_some (Had ((p ++ x ∷ []) ++ rest)) ≡ true
       there = ap (λ y. is_some (Had y)) (append_assoc p (x ∷ []) rest) ∙ some
+
+      here : is_some (Had (p ++ x ∷ [])) ≡ true
+      here = had_above together (p ++ x ∷ []) rest (child_up Top p x up) there
 
   -- ---- each path is led from the end of one
 
@@ -517,6 +596,11 @@ module _ (c : RepoState) (report : WholeReport) where
   pub root_stays : Top ≡ [] → HasDirectory (client_entries c report) [] → HasDirectory (λ q. (At q).entry) [] → (At []).stays ≡ true
   root_stays none old new =
       ap (λ (a : Aim). a.stays) (aim_root none)
-      ∙ both_directories (Had Top) (aim_of c report true true Top report.ask.goal).entry
+      ∙ ap (λ m. are_of_one_kind (Had Top) Aimed.entry && (m || is_of_line c report.ask (client_tree c report Top) Aimed.from)) (free_root report.ask (Led true Top) Top none)
+      ∙ and_true (are_of_one_kind (Had Top) Aimed.entry)
+      ∙ both_directories (Had Top) Aimed.entry
       (subst (HasDirectory (client_entries c report)) (sym none) old)
       (subst (λ (a : Aim). IsSomeAnd a.entry (λ e. IsTrue (is_directory e))) (aim_root none) new)
+    where
+      Aimed : Aim
+      Aimed = aim_of c report true true Top report.ask.goal

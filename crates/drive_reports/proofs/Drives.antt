@@ -1,5 +1,5 @@
 -- The two trees of a drive hold together.
-use Rattle.std.proofs.Common.{◌≡◌, arith, ℕ, zero, suc, ◌+◌, Bool, true, false, cond, ◌&&◌, not, List, [], ◌∷◌, ◌++◌, length, drop, Option, None, refl, sym, ap, ◌∙◌, subst}
+use Rattle.std.proofs.Common.{◌≡◌, arith, ℕ, zero, suc, ◌+◌, Bool, true, false, cond, ◌&&◌, ◌||◌, not, List, [], ◌∷◌, ◌++◌, length, drop, Option, None, refl, sym, ap, ◌∙◌, subst}
 use Rattle.std.proofs.{Common.if◌then◌else◌, lemmas.Bool.false≢true, lemmas.List.{length-append, append_assoc}}
 use Rattle.std.specs.{Prelude.{IsTrue, IsSome, IsSomeAnd, is_some, option_and_then, slice_get}, FinMap.get-empty}
 use Rattle.svnpath.specs.{PathLaws.{rest_append, under_append, under_is}, Paths.{is_at_or_under, path_cmp, PathValue}}
@@ -7,10 +7,10 @@ use Rattle.repo_api.specs.{Soundness.AreTrees, States.{RepoState, Revision, tree
 use Rattle.drive_rules.specs.Scopes.{below, depth_below, DepthLimit, hides_nothing, HoldsTogether}
 use Rattle.drive_rules.proofs.{Entries.below_under, Joined.and_front, Trees.{tree_holds, scope_holds}}
 use Rattle.small_rules.specs.GivingWay.{gives_way}
-use Rattle.drive_reports.specs.{Aims.{Aim, aim_at, are_of_one_kind}, Reported.{ReportedEntry, reported_entries}, Wholes.{WholeReport, client_tree, goal_path, target_tree}}
+use Rattle.drive_reports.specs.{Aims.{aim_at, are_of_one_kind}, Reported.{ReportedEntry, reported_entries}, Wholes.{WholeReport, client_tree, goal_path, target_tree}}
 use Rattle.drive_reports.specs.Targets.{client_entries, drive_scope, is_apart, is_stale, is_stale_token, limit_of, new_tree, old_tree, target_entries}
 use Rattle.drive_reports.specs.declared.ask.DriveAsk.{DriveAsk}
-use Rattle.drive_reports.proofs.{Aiming.{at_other, gives_or_stays, other_entry, other_from, today_holds}, Holding.{all_hold, longer_below, below_longer}}
+use Rattle.drive_reports.proofs.{Aiming.{gives_or_stays, other_entry, other_from, other_stays, today_holds}, Holding.{all_hold, longer_below, below_longer}}
 
 none_holds : (top : PathValue) → HoldsTogether top (tree_of (tree_in None))
 none_holds top p q at low some = absurd (false≢true (sym (ap is_some (get-empty path_cmp q)) ∙ some))
@@ -81,9 +81,7 @@ other_apart c report q other = by (drive_scope c report q) refl
     had = client_entries c report q
 
     stays : (aim_at c report q).stays ≡ are_of_one_kind had (aim_at c report q).entry
-    stays =
-        ap (λ (a : Aim). a.stays) (at_other c report q other)
-        ∙ ap (λ (a : Aim). are_of_one_kind had a.entry) (sym (at_other c report q other))
+    stays = other_stays c report q other
 
     to_be : drive_scope c report q ≡ true → target_entries c report q ≡ (aim_at c report q).entry
     to_be scope = ap (λ b. cond b (aim_at c report q).entry None) (and_front (is_at_or_under q report.ask.target) _ scope)
@@ -97,5 +95,6 @@ other_apart c report q other = by (drive_scope c report q) refl
 pub other_stale : (c : RepoState) (report : WholeReport) (q : PathValue) → report.ask.is_of_today ≡ false
     → is_stale c report q ≡ is_stale_token c.locks (goal_path report.ask q) (target_tree c report.ask q) (option_and_then (λ (h : ReportedEntry). h.token) (client_tree c report q))
 other_stale c report q other =
-    ap (λ p. is_stale_token c.locks p (target_entries c report q) (option_and_then (λ (h : ReportedEntry). h.token) (client_tree c report q))) (other_from c report q other)
+    ap (λ b. (not b || (aim_at c report q).stays) && is_stale_token c.locks (aim_at c report q).from (target_entries c report q) (option_and_then (λ (h : ReportedEntry). h.token) (client_tree c report q))) other
+    ∙ ap (λ p. is_stale_token c.locks p (target_entries c report q) (option_and_then (λ (h : ReportedEntry). h.token) (client_tree c report q))) (other_from c report q other)
     ∙ ap (λ e. is_stale_token c.locks (goal_path report.ask q) e (option_and_then (λ (h : ReportedEntry). h.token) (client_tree c report q))) (other_target c report q other)

@@ -77,16 +77,16 @@ mapped : {X Y : Type 0} (f : X → Y) (o : Option X) → IsSome (option_map f o)
 mapped f None h = h
 mapped f (Some x) h = refl
 
-entry_of : (s : Subtree) (depth : Depth) (token : Option (List ℕ)) (o : Option Entry) → IsDirectory o
-    → IsDirectory (option_map (λ (h : ReportedEntry). h.entry) (option_map (λ e. record { entry = e; revision = s.revision; depth = depth; token = token }) o))
-entry_of s depth token None h = h
-entry_of s depth token (Some x) h = h
+entry_of : (s : Subtree) (from : PathValue) (depth : Depth) (token : Option (List ℕ)) (o : Option Entry) → IsDirectory o
+    → IsDirectory (option_map (λ (h : ReportedEntry). h.entry) (option_map (reported_as s from depth token) o))
+entry_of s from depth token None h = h
+entry_of s from depth token (Some x) h = h
 
 -- the top of a subtree is a directory, with its properties or without
-top_is : (s : Subtree) (o : Option Entry) → IsDirectory o
-    → IsDirectory (option_map (λ (h : ReportedEntry). h.entry) (option_map (λ e. reported_as s s.depth s.token (top_entry s.starts_empty e)) o))
-top_is s None h = h
-top_is s (Some x) h = h
+top_is : (s : Subtree) (from : PathValue) (o : Option Entry) → IsDirectory o
+    → IsDirectory (option_map (λ (h : ReportedEntry). h.entry) (option_map (λ e. reported_as s from s.depth s.token (top_entry s.starts_empty e)) o))
+top_is s from None h = h
+top_is s from (Some x) h = h
 
 graft_in : (trees : ℕ → Tree) (from : PathValue) (s : Subtree) (front : List Component) (c : Component) (rest : List Component) → ((n : ℕ) → HoldsTogether [] (trees n))
     → IsSome (option_map (λ (h : ReportedEntry). h.entry) (in_subtree trees from s (front ++ c ∷ rest))) → IsDirectory (option_map (λ (h : ReportedEntry). h.entry) (in_subtree trees from s front))
@@ -95,11 +95,11 @@ graft_in trees from s [] c rest hold some = by s.starts_empty some
     deeper : (p r : PathValue) (d : Component) → below p (p ++ d ∷ r) ≡ true
     deeper p r d = let long : length (p ++ d ∷ r) ≡ length p + length (d ∷ r) = length-append p (d ∷ r) in longer_below p (p ++ d ∷ r) (omega (long, some_length d r, arith)) (under_append p (d ∷ r))
 
-    by : (b : Bool) → IsSome (option_map (λ (h : ReportedEntry). h.entry) (cond b None (option_map (λ e. record { entry = e; revision = s.revision; depth = depth_below s.depth; token = None }) (left_by s.depth rest (trees s.revision (from ++ c ∷ rest))))))
+    by : (b : Bool) → IsSome (option_map (λ (h : ReportedEntry). h.entry) (cond b None (option_map (reported_as s (from ++ c ∷ rest) (depth_below s.depth) None) (left_by s.depth rest (trees s.revision (from ++ c ∷ rest))))))
         → IsDirectory (option_map (λ (h : ReportedEntry). h.entry) (in_subtree trees from s []))
     by true h = absurd (false≢true h)
     by false h =
-        top_is s (trees s.revision from)
+        top_is s from (trees s.revision from)
         (hold s.revision from (from ++ c ∷ rest) refl (deeper from rest c) (left_some s.depth rest (trees s.revision (from ++ c ∷ rest)) (mapped _ _ (mapped (λ (h : ReportedEntry). h.entry) _ h))))
 graft_in trees from s (d ∷ ds) c rest hold some = by s.starts_empty refl some
   where
@@ -116,12 +116,12 @@ graft_in trees from s (d ∷ ds) c rest hold some = by s.starts_empty refl some
     whole Immediates (x ∷ es) e f h k = absurd (false≢true h)
     whole Infinity es e f h k = k h
 
-    by : (b : Bool) → s.starts_empty ≡ b → IsSome (option_map (λ (h : ReportedEntry). h.entry) (cond b None (option_map (λ e. record { entry = e; revision = s.revision; depth = depth_below s.depth; token = None }) (left_by s.depth (ds ++ c ∷ rest) (trees s.revision (from ++ d ∷ (ds ++ c ∷ rest)))))))
+    by : (b : Bool) → s.starts_empty ≡ b → IsSome (option_map (λ (h : ReportedEntry). h.entry) (cond b None (option_map (reported_as s (from ++ d ∷ (ds ++ c ∷ rest)) (depth_below s.depth) None) (left_by s.depth (ds ++ c ∷ rest) (trees s.revision (from ++ d ∷ (ds ++ c ∷ rest)))))))
         → IsDirectory (option_map (λ (h : ReportedEntry). h.entry) (in_subtree trees from s (d ∷ ds)))
     by true is h = absurd (false≢true h)
     by false is h =
-        subst (λ b. IsDirectory (option_map (λ (x : ReportedEntry). x.entry) (cond b None (option_map (λ e. record { entry = e; revision = s.revision; depth = depth_below s.depth; token = None }) (left_by s.depth ds (trees s.revision (from ++ d ∷ ds))))))) (sym is)
-        (entry_of s (depth_below s.depth) None (left_by s.depth ds (trees s.revision (from ++ d ∷ ds)))
+        subst (λ b. IsDirectory (option_map (λ (x : ReportedEntry). x.entry) (cond b None (option_map (reported_as s (from ++ d ∷ ds) (depth_below s.depth) None) (left_by s.depth ds (trees s.revision (from ++ d ∷ ds))))))) (sym is)
+        (entry_of s (from ++ d ∷ ds) (depth_below s.depth) None (left_by s.depth ds (trees s.revision (from ++ d ∷ ds)))
         (whole s.depth ds (trees s.revision (from ++ d ∷ (ds ++ c ∷ rest))) (trees s.revision (from ++ d ∷ ds)) (mapped _ _ (mapped (λ (x : ReportedEntry). x.entry) _ h))
         (λ e. hold s.revision (from ++ d ∷ ds) (from ++ d ∷ (ds ++ c ∷ rest)) refl (deeper from) e)))
 

@@ -25,13 +25,13 @@ left_all Immediates (c ∷ rest) e h = absurd (false≢true h)
 left_all Infinity rest e h = refl
 
 -- beneath what is shown the same is left, one depth further down
-left_below : (s : Subtree) (front : List Component) (c : Component) (rest : List Component) (e : Option Entry)
-    → option_map (reported_as s (depth_below s.depth) None) (left_by s.depth (front ++ c ∷ rest) e)
-    ≡ option_map (reported_as (part_below s (c ∷ [])) (depth_below (depth_below s.depth)) None) (left_by (depth_below s.depth) rest e)
-left_below s front c rest e = by s.depth front
+left_below : (s : Subtree) (from : PathValue) (front : List Component) (c : Component) (rest : List Component) (e : Option Entry)
+    → option_map (reported_as s from (depth_below s.depth) None) (left_by s.depth (front ++ c ∷ rest) e)
+    ≡ option_map (reported_as (part_below s (c ∷ [])) from (depth_below (depth_below s.depth)) None) (left_by (depth_below s.depth) rest e)
+left_below s from front c rest e = by s.depth front
   where
-    by : (d : Depth) (front : List Component) → option_map (reported_as s (depth_below d) None) (left_by d (front ++ c ∷ rest) e)
-        ≡ option_map (λ (x : Entry). record { entry = x; revision = s.revision; depth = depth_below (depth_below d); token = None }) (left_by (depth_below d) rest e)
+    by : (d : Depth) (front : List Component) → option_map (reported_as s from (depth_below d) None) (left_by d (front ++ c ∷ rest) e)
+        ≡ option_map (λ (x : Entry). record { entry = x; from = from; revision = s.revision; depth = depth_below (depth_below d); token = None }) (left_by (depth_below d) rest e)
     by Empty front = refl
     by Files [] = refl
     by Files (x ∷ xs) = refl
@@ -49,22 +49,25 @@ pub in_part : (trees : ℕ → Tree) (from : PathValue) (s : Subtree) (front res
 in_part trees from s [] rest some = ap (λ p. in_subtree trees p s rest) (sym (append-nil from))
 in_part trees from s (c ∷ front) rest some = by s.starts_empty refl rest
   where
+    whole : List Component → PathValue
+    whole r = from ++ c ∷ r
+
     shown : Bool → List Component → Option ReportedEntry
-    shown b r = cond b None (option_map (reported_as s (depth_below s.depth) None) (left_by s.depth r (trees s.revision (from ++ c ∷ r))))
+    shown b r = cond b None (option_map (reported_as s (whole r) (depth_below s.depth) None) (left_by s.depth r (trees s.revision (whole r))))
 
     by : (b : Bool) → s.starts_empty ≡ b → (rest : List Component) → in_subtree trees from s (c ∷ (front ++ rest)) ≡ in_subtree trees (from ++ c ∷ front) (part_below s (c ∷ front)) rest
     by true e rest = absurd (false≢true (sym (ap (λ b. is_some (shown b front)) e) ∙ some))
     by false e [] =
         ap (λ r. in_subtree trees from s (c ∷ r)) (append-nil front)
         ∙ ap (λ b. shown b front) e
-        ∙ ap (option_map (reported_as s (depth_below s.depth) None)) (left_all s.depth front (trees s.revision (from ++ c ∷ front)) there)
+        ∙ ap (option_map (reported_as s (whole front) (depth_below s.depth) None)) (left_all s.depth front (trees s.revision (whole front)) there)
       where
-        there : is_some (left_by s.depth front (trees s.revision (from ++ c ∷ front))) ≡ true
-        there = sym (mapped_some (reported_as s (depth_below s.depth) None) (left_by s.depth front (trees s.revision (from ++ c ∷ front)))) ∙ sym (ap (λ b. is_some (shown b front)) e) ∙ some
+        there : is_some (left_by s.depth front (trees s.revision (whole front))) ≡ true
+        there = sym (mapped_some (reported_as s (whole front) (depth_below s.depth) None) (left_by s.depth front (trees s.revision (whole front)))) ∙ sym (ap (λ b. is_some (shown b front)) e) ∙ some
     by false e (x ∷ rest) =
         ap (λ b. shown b (front ++ x ∷ rest)) e
-        ∙ left_below s front x rest (trees s.revision (from ++ c ∷ (front ++ x ∷ rest)))
-        ∙ ap (λ p. option_map (reported_as (part_below s (c ∷ front)) (depth_below (depth_below s.depth)) None) (left_by (depth_below s.depth) rest (trees s.revision p))) (sym (append_assoc from (c ∷ front) (x ∷ rest)))
+        ∙ left_below s (whole (front ++ x ∷ rest)) front x rest (trees s.revision (whole (front ++ x ∷ rest)))
+        ∙ ap (λ p. option_map (reported_as (part_below s (c ∷ front)) p (depth_below (depth_below s.depth)) None) (left_by (depth_below s.depth) rest (trees s.revision p))) (sym (append_assoc from (c ∷ front) (x ∷ rest)))
 
 -- the same of a graft
 pub shown_part : (trees : ℕ → Tree) (g : Graft) (s : Subtree) (p rest : PathValue) → g.subtree ≡ Some s → is_some (shown_by trees p (Some g)) ≡ true

@@ -16,11 +16,11 @@ entry_of f same (Some e) = ap (λ x. Some x) (same e)
 pub in_whole : (trees : ℕ → Tree) (from : PathValue) (s : Subtree) (rest : List Component) → s.starts_empty ≡ false → s.depth ≡ Infinity
     → option_map (λ (h : ReportedEntry). h.entry) (in_subtree trees from s rest) ≡ trees s.revision (from ++ rest)
 in_whole trees from s [] full deep =
-    ap (λ b. option_map (λ (h : ReportedEntry). h.entry) (option_map (λ e. reported_as s s.depth s.token (top_entry b e)) (trees s.revision from))) full
-    ∙ entry_of (λ e. reported_as s s.depth s.token (top_entry false e)) (λ e. refl) (trees s.revision from) ∙ ap (trees s.revision) (sym (append-nil from))
+    ap (λ b. option_map (λ (h : ReportedEntry). h.entry) (option_map (λ e. reported_as s from s.depth s.token (top_entry b e)) (trees s.revision from))) full
+    ∙ entry_of (λ e. reported_as s from s.depth s.token (top_entry false e)) (λ e. refl) (trees s.revision from) ∙ ap (trees s.revision) (sym (append-nil from))
 in_whole trees from s (c ∷ rest) full deep =
-    ap (λ b. option_map (λ (h : ReportedEntry). h.entry) (cond b None (option_map (reported_as s (depth_below s.depth) None) (left_by s.depth rest (trees s.revision (from ++ c ∷ rest)))))) full
-    ∙ entry_of (reported_as s (depth_below s.depth) None) (λ e. refl) (left_by s.depth rest (trees s.revision (from ++ c ∷ rest)))
+    ap (λ b. option_map (λ (h : ReportedEntry). h.entry) (cond b None (option_map (reported_as s (from ++ c ∷ rest) (depth_below s.depth) None) (left_by s.depth rest (trees s.revision (from ++ c ∷ rest)))))) full
+    ∙ entry_of (reported_as s (from ++ c ∷ rest) (depth_below s.depth) None) (λ e. refl) (left_by s.depth rest (trees s.revision (from ++ c ∷ rest)))
     ∙ ap (λ d. left_by d rest (trees s.revision (from ++ c ∷ rest))) deep
 
 -- what is reported as a whole has what its revision has

@@ -1,9 +1,11 @@
 -- Where a report leads each path, and which of the client's entries stay.
-use Rattle.std.specs.Prelude.{Bool, true, false, not, List, [], ◌∷◌, ◌++◌, Option, Some, None, option_map, if◌then◌else◌, length, drop}
-use Rattle.svnpath.specs.Paths.{Component, PathValue}
-use Rattle.repo_api.specs.{States.{RepoState, trees_in}, Trees.is_directory_there, declared.entry.Entry.Entry}
+use Rattle.std.specs.Prelude.{Bool, true, false, not, ◌&&◌, ◌||◌, List, [], ◌∷◌, ◌++◌, Option, Some, None, option_map, is_some, if◌then◌else◌, length, drop}
+use Rattle.svnpath.specs.Paths.{Component, PathValue, same_path}
+use Rattle.repo_api.specs.{Histories.history_of, States.{RepoState, trees_in}, Trees.is_directory_there, declared.entry.Entry.Entry}
 use Rattle.small_rules.specs.GivingWay.{gives_way}
-use Rattle.drive_reports.specs.{Links.{led_to, link_at}, Reported.ReportedEntry, Wholes.{WholeReport, client_tree, goal_path}, declared.graft.Graft.Graft}
+use Rattle.history.specs.{Lines.is_one_line, Logs.place_at}
+use Rattle.drive_reports.specs.{Links.{led_to, link_at}, Reported.ReportedEntry, Wholes.{WholeReport, client_tree, goal_path}, declared.ask.DriveAsk.DriveAsk}
+use Rattle.drive_reports.specs.declared.graft.Graft.{Graft}
 
 -- ---- one path
 
@@ -27,6 +29,26 @@ abbrev pub entry_led : Option Graft → Option Entry → Option Entry → Option
 entry_led None old there = there
 entry_led (Some link) old there = if are_of_one_kind old there then there else None
 
+-- ancestry counts: a client of today asks, and does not say that it is to be ignored
+abbrev pub counts_ancestry : DriveAsk → Bool
+counts_ancestry ask = ask.is_of_today && not ask.ignores_ancestry
+
+-- whether what keeps its kind stays where it is of another line of history: where ancestry does not
+-- count, at a link's top, and at the root
+abbrev pub may_change_line : DriveAsk → Option Graft → PathValue → Bool
+may_change_line ask link p = not (counts_ancestry ask) || is_some link || same_path p []
+
+-- what the client has is of one line of history with what is at this path of the revision asked for
+abbrev pub is_of_line : RepoState → DriveAsk → Option ReportedEntry → PathValue → Bool
+is_of_line c ask None from = false
+is_of_line c ask (Some h) from =
+    is_one_line (history_of c) (place_at h.revision h.from) (place_at ask.revision from)
+
+-- what keeps its kind at a path stays, as far as lines of history go
+abbrev pub keeps_line : RepoState → DriveAsk → Option Graft → PathValue → Option ReportedEntry
+    → PathValue → Bool
+keeps_line c ask link p had from = may_change_line ask link p || is_of_line c ask had from
+
 -- The aim of a path whose own path of the repository is this. What was reported of it counts or
 -- not, and it is in what is to be a directory or not.
 abbrev pub aim_of : RepoState → WholeReport → Bool → Bool → PathValue → PathValue → Aim
@@ -42,7 +64,7 @@ aim_of c report counts directory p own =
       counts = counts;
       had = had;
       entry = entry;
-      stays = are_of_one_kind old entry;
+      stays = are_of_one_kind old entry && keeps_line c report.ask link p had from;
     }
 
 -- ---- one path after another

@@ -1,7 +1,7 @@
 -- What the commands of a report make of it, and when they are refused.
 -- A definition in `do` judges one thing after another; the first refusal counts.
 use Rattle.std.specs.Prelude.{ℕ, Bool, true, false, not, ◌&&◌, ◌||◌, nat_lt, is_some, List, [], ◌∷◌, ◌++◌, length, drop, Option, Some, None, ok_or, Result, Ok}
-use Rattle.std.specs.Prelude.{Err, if◌then◌else◌}
+use Rattle.std.specs.{Prelude.{Err, if◌then◌else◌}, Result.result_ok}
 use Rattle.svnpath.specs.{Paths.{PathValue, same_path}, Texts.joined, Urls.path_of_text, declared.fault.PathFault.PathFault}
 use Rattle.refusals.specs.{Refusing.path_refusal, declared.Refusal.Refusal}
 use Rattle.refusals.specs.declared.Refusal.TheVariants as refusals
@@ -63,6 +63,7 @@ ask_of c is_of_today name anchor purpose request url = do
   Ok (record {
     purpose = purpose;
     is_of_today = is_of_today;
+    ignores_ancestry = request.ignores_ancestry;
     anchor = anchor;
     target = drop (length anchor) own;
     goal = goal;
@@ -73,7 +74,7 @@ ask_of c is_of_today name anchor purpose request url = do
 -- a report that begins, with its refusal if there is one
 abbrev pub begun_report : Result DriveAsk Refusal → ReportState
 begun_report (Ok ask) = Open (record { ask = ask; root = None; grafts = [] })
-begun_report (Err r) = Refused r
+begun_report (Err r) = Refused r None
 
 -- ---- a path of a report
 
@@ -148,6 +149,16 @@ set_path_answer c name report reported url = do
   (root, g) ← set_path_graft c name report reported url
   Ok (report_with_graft report (Some root) g)
 
+-- the path of the repository at which a path that is set, or linked to a URL, is refused: its own,
+-- where its directory is none, and else what it stands for
+abbrev pub set_path_place : RepoState → List ℕ → OpenState → ReportedPath → Option (List ℕ)
+    → Result PathValue Refusal
+set_path_place c name report reported url = do
+  p ← report_path report.ask reported.path
+  from ← url_or name (own_source report.ask.anchor report.ask.target report.grafts p) url
+  Ok (if has_place report.ask.target (reported_tree c report.ask report.grafts) p then from
+      else report.ask.anchor ++ p)
+
 -- the graft of a path at which nothing is
 abbrev pub empty_graft : OpenState → PathValue → Graft
 empty_graft report p = record {
@@ -171,10 +182,21 @@ delete_path_answer report text = do
   g ← delete_path_graft report text
   Ok (report_with_graft report report.root g)
 
--- the first refusal is kept
-abbrev pub kept_report : Result ReportState Refusal → ReportState
-kept_report (Ok report) = report
-kept_report (Err r) = Refused r
+-- the first refusal is kept, and the path at which it is, if it is one of a path
+abbrev pub kept_report : Option PathValue → Result ReportState Refusal → ReportState
+kept_report path (Ok report) = report
+kept_report path (Err r) = Refused r path
+
+-- the report after a path is set, or linked to a URL
+abbrev pub set_path_report : RepoState → List ℕ → OpenState → ReportedPath → Option (List ℕ)
+    → ReportState
+set_path_report c name report reported url =
+    kept_report (result_ok (set_path_place c name report reported url))
+    (set_path_answer c name report reported url)
+
+-- the report after a path at which nothing is: it is refused for its form alone
+abbrev pub delete_path_report : OpenState → List ℕ → ReportState
+delete_path_report report text = kept_report None (delete_path_answer report text)
 
 -- ---- the end
 
@@ -202,7 +224,7 @@ finish_root c report = do
 
 -- the report as a whole, or why there is no drive
 abbrev pub finish_answer : RepoState → ReportState → Result WholeReport Refusal
-finish_answer c (Refused r) = Err r
+finish_answer c (Refused r path) = Err r
 finish_answer c (Open report) = do
   root ← finish_root c report
   Ok (record { ask = report.ask; root = root; grafts = report.grafts })

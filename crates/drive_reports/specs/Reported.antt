@@ -6,10 +6,11 @@ use Rattle.repo_api.specs.{Trees.{is_directory, is_file_there, Tree}, declared.e
 use Rattle.drive_rules.specs.{Scopes.depth_below, declared.depth.Depth.Depth, declared.depth.Depth.TheVariants.{Empty, Files, Immediates, Infinity}}
 use Rattle.drive_reports.specs.{declared.graft.Graft.Graft, declared.graft.Subtree.Subtree}
 
--- what a client has at a path: the entry, its revision, how deep it was reported, and the token of
--- a lock
+-- what a client has at a path: the entry, its path of the repository and its revision, how deep it
+-- was reported, and the token of a lock
 pub record ReportedEntry : Type 0 where
   pub entry : Entry
+  pub from : PathValue
   pub revision : ℕ
   pub depth : Depth
   pub token : Option (List ℕ)
@@ -43,10 +44,11 @@ abbrev pub top_entry : Bool → Entry → Entry
 top_entry starts_empty e =
     record e { properties = if starts_empty && is_directory e then [] else e.properties }
 
--- an entry of a subtree, reported so deep, with this token
-abbrev pub reported_as : Subtree → Depth → Option (List ℕ) → Entry → ReportedEntry
-reported_as s depth token e = record {
+-- an entry of a subtree, at this path of the repository, reported so deep, with this token
+abbrev pub reported_as : Subtree → PathValue → Depth → Option (List ℕ) → Entry → ReportedEntry
+reported_as s from depth token e = record {
   entry = e;
+  from = from;
   revision = s.revision;
   depth = depth;
   token = token;
@@ -55,12 +57,12 @@ reported_as s depth token e = record {
 -- what a subtree has at the rest of a path, from its top on
 abbrev pub in_subtree : (ℕ → Tree) → PathValue → Subtree → List Component → Option ReportedEntry
 in_subtree trees from s [] =
-    option_map (λ e. reported_as s s.depth s.token (top_entry s.starts_empty e))
+    option_map (λ e. reported_as s from s.depth s.token (top_entry s.starts_empty e))
     (trees s.revision from)
 in_subtree trees from s (c ∷ rest) =
     if s.starts_empty
     then None
-    else option_map (reported_as s (depth_below s.depth) None)
+    else option_map (reported_as s (from ++ c ∷ rest) (depth_below s.depth) None)
     (left_by s.depth rest (trees s.revision (from ++ c ∷ rest)))
 
 -- what a graft has at the rest of a path, from its own path on

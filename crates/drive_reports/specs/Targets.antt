@@ -1,5 +1,5 @@
 -- The two trees of a drive: what the client has, and what it is to have.
-use Rattle.std.specs.Prelude.{ℕ, Bool, false, not, ◌&&◌, List, Option, Some, None, option_map, option_and_then, is_some, if◌then◌else◌}
+use Rattle.std.specs.Prelude.{ℕ, Bool, false, not, ◌&&◌, ◌||◌, List, Option, Some, None, option_map, option_and_then, is_some, if◌then◌else◌}
 use Rattle.std.specs.FinMap.{get}
 use Rattle.svnpath.specs.Paths.{is_at_or_under, PathValue}
 use Rattle.repo_api.specs.{States.{LockMap, RepoState}, Trees.Tree, declared.entry.Entry.Entry, declared.lock.Lock.Lock}
@@ -35,10 +35,16 @@ is_stale_token locks path entry None = false
 is_stale_token locks path entry (Some token) =
     is_some entry && not (holds_token (get locks path) token)
 
+-- what is reported of a path keeps its token: to a client of today only where it stays, since such a
+-- client cannot be told of the token of what comes anew
+abbrev pub keeps_token : RepoState → WholeReport → PathValue → Bool
+keeps_token c report q = not report.ask.is_of_today || (aim_at c report q).stays
+
 -- the client's token of this path is stale, by the locks that stand now where the path is led
 abbrev pub is_stale : RepoState → WholeReport → PathValue → Bool
 is_stale c report q =
-    is_stale_token c.locks (aim_at c report q).from (target_entries c report q)
+    keeps_token c report q
+    && is_stale_token c.locks (aim_at c report q).from (target_entries c report q)
     (option_and_then (λ h. h.token) (client_tree c report q))
 
 -- ---- the paths of the drive

@@ -1,8 +1,8 @@
 //! What the commands of a report make of it.
-ghost use Rattle.std.specs.Prelude.{◌≡◌, option_copied, IfOk};
+ghost use Rattle.std.specs.{Prelude.{◌≡◌, option_copied, IfOk, IsOkAnd}, Result.result_ok};
 ghost use Rattle.repo_api.specs.Soundness.{AreTrees};
 ghost use Rattle.drive_reports.specs.{Judging.{JudgesReport, JudgesAnd}, Named.IsNamed, Refusing.{is_in_order, may_be_absent, first_root, graft_of}};
-ghost use Rattle.drive_reports.specs.Refusing.{set_path_graft, set_path_answer, delete_path_graft, delete_path_answer, report_with_graft, kept_report};
+ghost use Rattle.drive_reports.specs.Refusing.{set_path_graft, set_path_place, set_path_report, delete_path_graft, delete_path_report, report_with_graft};
 ghost use Rattle.drive_reports.specs.Refusing.{has_goal, has_anchor, finish_root};
 
 use crate::ask::{DriveAsk, Purpose};
@@ -11,7 +11,7 @@ use crate::grafts::Grafts;
 use crate::judging::{graft_depth, is_directory_there, is_there, judge, revision_read, url_or};
 use crate::report::{OpenReport, Report, ReportRoot};
 use crate::reported::{has_directory, has_place};
-use crate::sources::{own_source, report_path};
+use crate::sources::{own_source, report_path, under_anchor};
 use byte_string::ByteString;
 use drive_rules::Depth;
 use refusals::{NotDone, Refusal};
@@ -158,6 +158,66 @@ fn with_graft(
     Ok(Report::Open(report))
 }
 
+/// Finds the path of the repository at which a path that is set, or linked to a URL, is refused: its own, if its
+/// directory is none, and else what it stands for.
+fn set_path_place<R: Repository>(
+    alloc: Global,
+    view: &R,
+    name: &str,
+    report: &OpenReport<Grafts>,
+    link: Link<'_>,
+) -> Result<Path, NotDone>
+    requires { AreTrees (R.content view.now).revisions }
+    ensures { JudgesReport result (set_path_place (R.content view.now) name.now report.now
+        link.entry.reported.now (option_copied link.entry.url)) }
+{
+    let ask = &report.ask;
+    let grafts = &report.grafts;
+    let path = report_path(alloc, ask, &link.reported.path)?;
+    let own = own_source(alloc, ask, grafts, &path)?;
+    let from = url_or(alloc, name, own, link.url)?;
+    let is_placed = has_place(alloc, view, ask.target.as_path(), grafts, &path)?;
+    if is_placed {
+        Ok(from)
+    } else {
+        Ok(under_anchor(alloc, &ask.anchor, &path)?)
+    }
+}
+
+/// Gives the path of the repository at which a path that is set is refused, if it names one.
+fn set_path_refused_at<R: Repository>(
+    alloc: Global,
+    view: &R,
+    name: &str,
+    report: &OpenReport<Grafts>,
+    link: Link<'_>,
+) -> Result<Option<Path>, AllocError>
+    requires { AreTrees (R.content view.now).revisions }
+    ensures { IfOk result (λ path. path ≡ result_ok (set_path_place (R.content view.now) name.now
+        report.now link.entry.reported.now (option_copied link.entry.url))) }
+{
+    match set_path_place(alloc, view, name, report, link) {
+        Ok(path) => Ok(Some(path)),
+        Err(NotDone::Refused(_)) => Ok(None),
+        Err(NotDone::NoMemory) => Err(AllocError),
+    }
+}
+
+/// Refuses a report from now on, by this refusal and at this path, if that could be made.
+fn refuse(
+    report: OpenReport<Grafts>,
+    refusal: Refusal,
+    path: Result<Option<Path>, AllocError>,
+) -> Result<Report<Grafts>, AllocError>
+    ensures { IfOk result (λ next. IsOkAnd path (λ p. next ≡ Report.Refused refusal p)) }
+{
+    drop(report);
+    match path {
+        Ok(path) => Ok(Report::Refused(refusal, path)),
+        Err(error) => Err(error),
+    }
+}
+
 /// Gives what a path that is set, or linked to a URL, makes of a report. The first refusal is kept.
 pub fn set_path<R: Repository>(
     alloc: Global,
@@ -167,14 +227,14 @@ pub fn set_path<R: Repository>(
     link: Link<'_>,
 ) -> Result<Report<Grafts>, AllocError>
     requires { AreTrees (R.content view.now).revisions }
-    ensures { IfOk result (λ next. next ≡ kept_report (set_path_answer (R.content view.now) name.now
-        report link.entry.reported.now (option_copied link.entry.url))) }
+    ensures { IfOk result (λ next. next ≡ set_path_report (R.content view.now) name.now
+        report link.entry.reported.now (option_copied link.entry.url)) }
 {
     match set_path_graft(alloc, view, name, &report, link) {
         Ok((root, graft)) => with_graft(alloc, report, Some(root), graft),
         Err(NotDone::Refused(refusal)) => {
-            drop(report);
-            Ok(Report::Refused(refusal))
+            let path = set_path_refused_at(alloc, view, name, &report, link);
+            refuse(report, refusal, path)
         }
         Err(NotDone::NoMemory) => {
             drop(report);
@@ -189,7 +249,7 @@ pub fn delete_path(
     report: OpenReport<Grafts>,
     text: &ByteString,
 ) -> Result<Report<Grafts>, AllocError>
-    ensures { IfOk result (λ next. next ≡ kept_report (delete_path_answer report text.now)) }
+    ensures { IfOk result (λ next. next ≡ delete_path_report report text.now) }
 {
     match delete_path_graft(alloc, &report, text) {
         Ok(graft) => {
@@ -198,7 +258,7 @@ pub fn delete_path(
         }
         Err(NotDone::Refused(refusal)) => {
             drop(report);
-            Ok(Report::Refused(refusal))
+            Ok(Report::Refused(refusal, None))
         }
         Err(NotDone::NoMemory) => {
             drop(report);

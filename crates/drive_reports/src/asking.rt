@@ -49,6 +49,7 @@ pub fn ask_of<R: Repository>(
     Ok(DriveAsk {
         purpose: errand.purpose,
         is_of_today: anchor.is_of_today,
+        ignores_ancestry: errand.request.ignores_ancestry,
         anchor: anchor.path.clone()?,
         target: NamedPath::new(target),
         goal,
@@ -74,7 +75,7 @@ pub fn begin<R: Repository>(
             root: None,
             grafts: Grafts::new(alloc),
         })),
-        Err(NotDone::Refused(refusal)) => Ok(Report::Refused(refusal)),
+        Err(NotDone::Refused(refusal)) => Ok(Report::Refused(refusal, None)),
         Err(NotDone::NoMemory) => Err(AllocError),
     }
 }

@@ -5,6 +5,7 @@ use crate::ask::DriveAsk;
 use crate::grafts::Grafts;
 use drive_rules::Depth;
 use refusals::Refusal;
+use svnpath::Path;
 
 /// The revision and the depth of the path that is reported first, the target.
 #[derive(Clone, Copy, Debug, PartialEq, Eq)]
@@ -32,9 +33,9 @@ impl OpenReport<Grafts> {
     }
 }
 
-/// A report on its way. A refusal is told at its end.
+/// A report on its way. A refusal is told at its end, with the path at which it is, if it is one of a path.
 #[derive(Drop)]
 pub enum Report<G> {
-    Refused(Refusal),
+    Refused(Refusal, Option<Path>),
     Open(OpenReport<G>),
 }

@@ -11,7 +11,7 @@ use std::alloc::{AllocError, Global};
 use svnpath::Path;
 
 /// Gives a path of a report as a path of the repository: beneath the anchor.
-fn under_anchor(alloc: Global, anchor: &Path, path: &Path) -> Result<Path, AllocError>
+pub(crate) fn under_anchor(alloc: Global, anchor: &Path, path: &Path) -> Result<Path, AllocError>
     ensures { IfOk result (λ p. p ≡ anchor.now ++ path.now) }
 {
     path.rebased(alloc, &Path::root(alloc), anchor)

@@ -10,8 +10,8 @@ use Rattle.wire_edits.specs.declared.editing.EditorCommand.TheVariants.{CloseDir
 use Rattle.drive_rules.specs.{Steps.{has_step, is_adding, is_entry_property, is_opening, Step}, Steps.EntryKind.DirectoryKind, Steps.Step.{AddAt, OpenAt}}
 use Rattle.drive_rules.specs.Scopes.{depth_below, hides_nothing}
 use Rattle.drive_rules.proofs.{Joined.{and_front, named_append}, Trees.{in_scope, is_scope}}
-use Rattle.reporter.specs.{Own.{Change, property_steps, text_steps}, Visits.{entry_kind, kind_if, plan_steps, visit_steps}, declared.visit.Visit.Visit}
-use Rattle.reporter.specs.declared.visit.Visit.TheVariants.{Open, Add, Delete, Close}
+use Rattle.reporter.specs.{Own.{Change, property_steps, text_steps}, Visits.{entry_kind, kind_if, plan_steps, visit_steps}, Visits.Visit}
+use Rattle.reporter.specs.Visits.Visit.{Open, Add, Delete, Close}
 use Rattle.drive_reports.specs.Reported.{reported_entries}
 use Rattle.drive_reports.specs.Targets.{WholeReport, client_tree, target_entries, limit_of, drive_scope, is_apart, is_stale, old_tree, new_tree, stale_in}
 use Rattle.drive_wire.specs.{EntryProperties.{entry_property, told_by, told}, Saying.Says}

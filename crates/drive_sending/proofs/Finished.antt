@@ -8,7 +8,7 @@ use Rattle.refusals.specs.declared.Refusal.{Refusal}
 use Rattle.refusals.specs.declared.Refusal.TheVariants as refusals
 use Rattle.drive_rules.specs.{Scopes.{depth_below, hides_nothing, stays_in_scope, top_limit}, Steps.EntryKind.DirectoryKind}
 use Rattle.drive_rules.proofs.Joined.{and_front}
-use Rattle.reporter.specs.{Visits.{entry_kind, kind_if}, declared.visit.Visit.Visit}
+use Rattle.reporter.specs.{Visits.{entry_kind, kind_if}, Visits.Visit}
 use Rattle.drive_reports.specs.{Named.{IsNamed, AreNamed}, Refusing.{◌>>=◌, ok_if, OpenState, has_goal, has_anchor, finish_root}}
 use Rattle.drive_reports.specs.{Aims.aim_at, Reported.{reported_entries, has_directory}, Targets.{WholeReport, client_tree, reported_tree, target_entries, limit_of, new_tree}}
 use Rattle.drive_reports.proofs.Aiming.{root_entry}

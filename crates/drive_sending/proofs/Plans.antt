@@ -11,8 +11,8 @@ use Rattle.wire_forms.specs.Forms.{is_name}
 use Rattle.wire_edits.specs.declared.editing.EditorCommand.{EditorCommand}
 use Rattle.drive_rules.specs.{Places.is_in_directory, Steps.{EntryKind, Step}, Steps.EntryKind.{DirectoryKind, FileKind}, Steps.Step.{AddAt, DeleteAt, OpenAt}}
 use Rattle.drive_rules.proofs.Joined.{and_front}
-use Rattle.reporter.specs.{Nesting.{stands_as, walk}, Visits.{entry_kind, kind_if, plan_steps}, declared.visit.Visit.Visit}
-use Rattle.reporter.specs.declared.visit.Visit.TheVariants.{Open, Add, Delete, Close}
+use Rattle.reporter.specs.{Nesting.{stands_as, walk}, Visits.{entry_kind, kind_if, plan_steps}, Visits.Visit}
+use Rattle.reporter.specs.Visits.Visit.{Open, Add, Delete, Close}
 use Rattle.drive_reports.specs.{Targets.{WholeReport, old_tree, new_tree}, declared.ask.Purpose.Purpose}
 use Rattle.drive_reports.specs.declared.ask.Purpose.TheVariants.{Update, Switch, Status}
 use Rattle.drive_wire.specs.Saying as saying

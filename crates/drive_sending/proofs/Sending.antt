@@ -11,11 +11,11 @@ use Rattle.repo_laws.proofs.Standing.{right_where, short_where}
 use Rattle.drive_rules.specs.{Drives.{Differs, HasReason}, Places.is_in_directory, Scopes.depth_below, Steps.{is_named, node_of, Step}}
 use Rattle.drive_rules.specs.{declared.depth.Depth.Depth, declared.depth.Depth.TheVariants.{Empty, Files, Immediates, Infinity}}
 use Rattle.drive_rules.proofs.Joined.{and_front, named_append, or_cases, or_right}
-use Rattle.reporter.specs.{Nesting.{stands_as, walk}, Visits.{OwnSteps, entry_kind, kind_if, plan_steps, visit_steps}, declared.visit.Visit.Visit}
-use Rattle.reporter.specs.declared.visit.Visit.TheVariants.{Open, Add, Delete, Close}
+use Rattle.reporter.specs.{Nesting.{stands_as, walk}, Visits.{OwnSteps, entry_kind, kind_if, plan_steps, visit_steps}, Visits.Visit}
+use Rattle.reporter.specs.Visits.Visit.{Open, Add, Delete, Close}
 use Rattle.drive_reports.specs.Named.{IsNamed, AreNamed}
 use Rattle.drive_reports.specs.Reported.{ReportedEntry, ReportedTree, left_by, top_entry, reported_as, in_subtree, in_graft, has_place, with_graft}
-use Rattle.drive_reports.specs.{Aims.aim_at, Targets.{WholeReport, client_tree, drive_scope, is_apart, is_stale, is_stale_token, new_tree, old_tree, stale_in, target_entries}}
+use Rattle.drive_reports.specs.{Aims.aim_at, Targets.{WholeReport, client_tree, drive_scope, is_apart, is_stale, is_stale_token, keeps_token, new_tree, old_tree, stale_in, target_entries}}
 use Rattle.drive_reports.specs.{declared.graft.Graft.Graft, declared.graft.Subtree.Subtree}
 use Rattle.drive_reports.proofs.Aiming.{at_led, entry_is, entry_stands, IsFront, IsLed}
 use Rattle.drive_wire.specs.Sent.{or_no_text}
@@ -89,12 +89,12 @@ left_there Infinity rest None h = h
 
 in_there : (trees : ℕ → Tree) (from : PathValue) (s : Subtree) (rest : List Component) → is_some (in_subtree trees from s rest) ≡ true → is_some (trees s.revision (from ++ rest)) ≡ true
 in_there trees from s [] h =
-    subst (λ p. is_some (trees s.revision p) ≡ true) (sym (append-nil from)) (mapped (λ e. reported_as s s.depth s.token (top_entry s.starts_empty e)) (trees s.revision from) h)
+    subst (λ p. is_some (trees s.revision p) ≡ true) (sym (append-nil from)) (mapped (λ e. reported_as s from s.depth s.token (top_entry s.starts_empty e)) (trees s.revision from) h)
 in_there trees from s (c ∷ rest) h = by s.starts_empty h
   where
-    by : (b : Bool) → is_some (cond b None (option_map (reported_as s (depth_below s.depth) None) (left_by s.depth rest (trees s.revision (from ++ c ∷ rest))))) ≡ true → is_some (trees s.revision (from ++ c ∷ rest)) ≡ true
+    by : (b : Bool) → is_some (cond b None (option_map (reported_as s (from ++ c ∷ rest) (depth_below s.depth) None) (left_by s.depth rest (trees s.revision (from ++ c ∷ rest))))) ≡ true → is_some (trees s.revision (from ++ c ∷ rest)) ≡ true
     by true e = absurd (false≢true e)
-    by false e = left_there s.depth rest (trees s.revision (from ++ c ∷ rest)) (mapped (reported_as s (depth_below s.depth) None) (left_by s.depth rest (trees s.revision (from ++ c ∷ rest))) e)
+    by false e = left_there s.depth rest (trees s.revision (from ++ c ∷ rest)) (mapped (reported_as s (from ++ c ∷ rest) (depth_below s.depth) None) (left_by s.depth rest (trees s.revision (from ++ c ∷ rest))) e)
 
 graft_named : (trees : ℕ → Tree) (from : PathValue) (o : Option Subtree) (rest : List Component) → AllNamed trees → is_some (option_and_then (λ s. in_subtree trees from s rest) o) ≡ true → IsNamed rest
 graft_named trees from None rest all h = absurd (false≢true h)
@@ -173,7 +173,7 @@ module _ (c : RepoState) (report : WholeReport) (trees : AreTrees c.revisions) (
           absurd (differs (ap (option_map node_of) (is_old ∙ sym is_new), ap (option_map (λ (e : Entry). e.last)) (is_old ∙ sym is_new)))
 
   stale_named : (p : PathValue) → stale_in c report p ≡ true → IsNamed p
-  stale_named p stale = by (option_and_then (λ (h : ReportedEntry). h.token) (client_tree c report p)) (and_behind (drive_scope c report p) (is_stale c report p) stale)
+  stale_named p stale = by (option_and_then (λ (h : ReportedEntry). h.token) (client_tree c report p)) (and_behind (keeps_token c report p) _ (and_behind (drive_scope c report p) (is_stale c report p) stale))
     where
       by : (token : Option (List ℕ)) → is_stale_token c.locks (aim_at c report p).from (target_entries c report p) token ≡ true → IsNamed p
       by None h = absurd (false≢true h)

@@ -4,7 +4,7 @@ use Rattle.repo_api.specs.States.{RepoState}
 use Rattle.wire_edits.specs.declared.editing.EditorCommand.{EditorCommand}
 use Rattle.wire_replies.proofs.Parts.{part_all}
 use Rattle.wire_replies.specs.Sinks.{WritesPart}
-use Rattle.reporter.specs.{Visiting.MayVisit, declared.visit.Visit.Visit, declared.visit.Visit.TheVariants.{Open, Add, Delete, Close}}
+use Rattle.reporter.specs.{Visiting.MayVisit, Visits.Visit, Visits.Visit.{Open, Add, Delete, Close}}
 use Rattle.reporter.specs.declared.visitor.Visitor.{Visitor}
 use Rattle.drive_reports.specs.Targets.{WholeReport}
 use Rattle.drive_sides.proofs.Existing.{some_visits}

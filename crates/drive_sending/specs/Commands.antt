@@ -11,7 +11,7 @@ use Rattle.wire_edits.specs.declared.editing.EditorCommand.TheVariants.{DeleteEn
 use Rattle.wire_edits.specs.declared.editing.EditorCommand.TheVariants.{ChangeFileProperty, ApplyTextDelta, TextDeltaChunk, TextDeltaEnd, CloseDirectory}
 use Rattle.wire_edits.specs.{declared.editing.EditorCommand.TheVariants.CloseFile, declared.editing.OpenedEntry.OpenedEntry}
 use Rattle.drive_rules.specs.{Steps.EntryKind, Steps.EntryKind.{DirectoryKind, FileKind}}
-use Rattle.reporter.specs.{Own.Change, Visits.kind_if, declared.visit.Visit.Visit, declared.visit.Visit.TheVariants.{Open, Add, Delete, Close}}
+use Rattle.reporter.specs.{Own.Change, Visits.kind_if, Visits.Visit, Visits.Visit.{Open, Add, Delete, Close}}
 use Rattle.drive_reports.specs.{Targets.{WholeReport, client_tree, new_tree}, declared.ask.Purpose.Purpose}
 use Rattle.drive_reports.specs.declared.ask.Purpose.TheVariants.{Update, Switch, Status}
 use Rattle.drive_wire.specs.Sent.{framed}

@@ -12,7 +12,7 @@ ghost use Rattle.wire_replies.specs.{Made.Makes, Sinks.Says};
 use crate::naming::token;
 use crate::saying::say_made;
 use crate::telling::say_root_news;
-use crate::visits::{root_news, say_close, say_visits};
+use crate::visits::{say_close, say_visits, target_news};
 use drive_reports::{Grafts, OpenReport, ReportRoot};
 use drive_sides::{DriveVisitor, TwoTrees, visitor};
 use repo_api::Repository;
@@ -53,7 +53,7 @@ fn say_root<R: Repository, S: ReplySink>(
     if !trees.report.ask.target.as_path().is_root() {
         return Ok(());
     }
-    let news = root_news(alloc, trees)?;
+    let news = target_news(alloc, trees)?;
     say_root_news(alloc, &news, out)
 }
 

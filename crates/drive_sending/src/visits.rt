@@ -1,7 +1,7 @@
 //! The commands of visits. Where one of these fails, a part of what it says was written.
 ghost use Rattle.std.specs.Prelude.{◌≡◌, ◌<◌, ◌+◌, ◌^◌, ◌∷◌, [], false};
 ghost use Rattle.drive_rules.specs.Steps.EntryKind.{DirectoryKind};
-ghost use Rattle.reporter.specs.{Knowing.HoldsKnown, Visits.kind_if};
+ghost use Rattle.reporter.specs.{Knowing.{HoldsKnown, IsKnown, IsVisitKnown, visit_of}, Visits.{Visit, kind_if}};
 ghost use Rattle.drive_sides.specs.{Known.IsKnownOf, OnTrees.on_trees};
 ghost use Rattle.drive_sending.specs.Commands.{add_command, added_entry, around_after, deeper_by, deleted_entry, news_told, open_command, opened_entry};
 ghost use Rattle.drive_sending.specs.{Commands.{plan_commands, visit_commands}, Driving.{Sends, SendsVisits}, Tokens.token_of};
@@ -11,9 +11,9 @@ use crate::naming::{relative_text, token};
 use crate::saying::say_made;
 use crate::telling::{Entrance, or_no_news, say_news};
 use drive_news::News;
-use drive_sides::{DriveVisitor, TwoTrees};
+use drive_sides::{DrivePlace, DriveVisit, DriveVisitor, TwoTrees};
 use repo_api::Repository;
-use reporter::Visit;
+use reporter::{KnownVisit, Sides};
 use std::alloc::{AllocError, Global};
 use svnpath::Path;
 use wire_edits::{AddedEntry, DeletedEntry, EditorCommand, OpenedEntry};
@@ -23,19 +23,20 @@ use wire_replies::ReplySink;
 fn open_command<R: Repository>(
     alloc: Global,
     trees: &TwoTrees<R>,
-    path: &Path,
+    place: &DrivePlace,
     entrance: Entrance,
 ) -> Result<EditorCommand, AllocError>
-    requires { entrance.around + 1 < 2 ^ 64 }
+    requires around { entrance.around + 1 < 2 ^ 64 }
+    requires known { IsKnown (on_trees trees.now IsKnownOf) place.now }
     ensures { Makes result (open_command (kind_if entrance.is_directory)
-        (on_trees trees.now opened_entry entrance.around path.now
+        (on_trees trees.now opened_entry entrance.around place.now.path
         (kind_if entrance.is_directory))) }
 {
     let entry = OpenedEntry {
-        path: relative_text(alloc, path)?,
+        path: relative_text(alloc, &place.path)?,
         parent: token(alloc, true, entrance.around)?,
         token: token(alloc, entrance.is_directory, entrance.around + 1)?,
-        revision: trees.reported_revision(alloc, path)?,
+        revision: trees.reported_revision(place),
     };
     if entrance.is_directory {
         Ok(EditorCommand::OpenDirectory(entry))
@@ -85,39 +86,42 @@ fn close_command(alloc: Global, around: u64) -> Result<EditorCommand, AllocError
 fn news_told<R: Repository>(
     alloc: Global,
     trees: &TwoTrees<R>,
-    path: &Path,
+    place: &DrivePlace,
     is_anew: bool,
 ) -> Result<News, AllocError>
-    ensures { Makes result (on_trees trees.now news_told path.now is_anew) }
+    requires { IsKnown (on_trees trees.now IsKnownOf) place.now }
+    ensures { Makes result (on_trees trees.now news_told place.now.path is_anew) }
 {
-    let found = trees.news(alloc, path, is_anew)?;
+    let found = trees.news(alloc, place, is_anew)?;
     Ok(or_no_news(alloc, found))
 }
 
-/// Finds what is sent about the root.
-pub(crate) fn root_news<R: Repository>(
+/// Finds what is sent about the target, where it stays.
+pub(crate) fn target_news<R: Repository>(
     alloc: Global,
     trees: &TwoTrees<R>,
 ) -> Result<News, AllocError>
-    ensures { Makes result (on_trees trees.now news_told [] false) }
+    ensures { Makes result (on_trees trees.now news_told trees.now.report.now.ask.target false) }
 {
-    news_told(alloc, trees, &Path::root(alloc), false)
+    let target = trees.top(alloc)?;
+    news_told(alloc, trees, &target, false)
 }
 
 /// Writes that an entry is opened, and what it is told.
 fn say_open<R: Repository, S: ReplySink>(
     alloc: Global,
     trees: &TwoTrees<R>,
-    path: &Path,
+    place: &DrivePlace,
     entrance: Entrance,
     out: &mut S,
 ) -> Result<(), AllocError>
-    requires { entrance.around + 1 < 2 ^ 64 }
+    requires around { entrance.around + 1 < 2 ^ 64 }
+    requires known { IsKnown (on_trees trees.now IsKnownOf) place.now }
     ensures { Sends result (S.writes out.old out.new) (on_trees trees.now visit_commands
-        entrance.around (Visit.Open path.now entrance.is_directory)) }
+        entrance.around (Visit.Open place.now.path entrance.is_directory)) }
 {
-    let news = news_told(alloc, trees, path, false)?;
-    say_made(open_command(alloc, trees, path, entrance), out)?;
+    let news = news_told(alloc, trees, place, false)?;
+    say_made(open_command(alloc, trees, place, entrance), out)?;
     say_news(alloc, trees.report.ask.purpose, entrance, &news, out)
 }
 
@@ -125,16 +129,17 @@ fn say_open<R: Repository, S: ReplySink>(
 fn say_add<R: Repository, S: ReplySink>(
     alloc: Global,
     trees: &TwoTrees<R>,
-    path: &Path,
+    place: &DrivePlace,
     entrance: Entrance,
     out: &mut S,
 ) -> Result<(), AllocError>
-    requires { entrance.around + 1 < 2 ^ 64 }
+    requires around { entrance.around + 1 < 2 ^ 64 }
+    requires known { IsKnown (on_trees trees.now IsKnownOf) place.now }
     ensures { Sends result (S.writes out.old out.new) (on_trees trees.now visit_commands
-        entrance.around (Visit.Add path.now entrance.is_directory)) }
+        entrance.around (Visit.Add place.now.path entrance.is_directory)) }
 {
-    let news = news_told(alloc, trees, path, true)?;
-    say_made(add_command(alloc, path, entrance), out)?;
+    let news = news_told(alloc, trees, place, true)?;
+    say_made(add_command(alloc, &place.path, entrance), out)?;
     say_news(alloc, trees.report.ask.purpose, entrance, &news, out)
 }
 
@@ -167,31 +172,38 @@ pub(crate) fn say_close<S: ReplySink>(
 fn say_visit<R: Repository, S: ReplySink>(
     alloc: Global,
     trees: &TwoTrees<R>,
-    visit: &Visit,
+    visit: &DriveVisit,
     around: u64,
     out: &mut S,
 ) -> Result<(), AllocError>
-    requires { around + 1 < 2 ^ 64 }
+    requires around { around + 1 < 2 ^ 64 }
+    requires known { IsVisitKnown (on_trees trees.now IsKnownOf) visit.now }
     ensures { Sends result (S.writes out.old out.new)
-        (on_trees trees.now visit_commands around visit.now) }
+        (on_trees trees.now visit_commands around (visit_of visit.now)) }
 {
     match visit {
-        Visit::Open { path, is_directory } => {
+        KnownVisit::Open {
+            place,
+            is_directory,
+        } => {
             let entrance = Entrance {
                 around,
                 is_directory: *is_directory,
             };
-            say_open(alloc, trees, path, entrance, out)
+            say_open(alloc, trees, place, entrance, out)
         }
-        Visit::Add { path, is_directory } => {
+        KnownVisit::Add {
+            place,
+            is_directory,
+        } => {
             let entrance = Entrance {
                 around,
                 is_directory: *is_directory,
             };
-            say_add(alloc, trees, path, entrance, out)
+            say_add(alloc, trees, place, entrance, out)
         }
-        Visit::Delete(path) => say_delete(alloc, path, around, out),
-        Visit::Close => say_close(alloc, around, out),
+        KnownVisit::Delete(path) => say_delete(alloc, path, around, out),
+        KnownVisit::Close => say_close(alloc, around, out),
     }
 }
 
@@ -204,15 +216,15 @@ fn around_entered(around: u64, is_directory: bool) -> u64
 }
 
 /// Says how many directories are open around the innermost one after a visit.
-fn around_after(visit: &Visit, around: u64) -> u64
+fn around_after(visit: &DriveVisit, around: u64) -> u64
     requires { around + 1 < 2 ^ 64 }
-    ensures { result ≡ around_after around visit.now }
+    ensures { result ≡ around_after around (visit_of visit.now) }
 {
     match visit {
-        Visit::Open { is_directory, .. } => around_entered(around, *is_directory),
-        Visit::Add { is_directory, .. } => around_entered(around, *is_directory),
-        Visit::Delete(_) => around,
-        Visit::Close => around.saturating_sub(1),
+        KnownVisit::Open { is_directory, .. } => around_entered(around, *is_directory),
+        KnownVisit::Add { is_directory, .. } => around_entered(around, *is_directory),
+        KnownVisit::Delete(_) => around,
+        KnownVisit::Close => around.saturating_sub(1),
     }
 }
 
@@ -220,14 +232,15 @@ fn around_after(visit: &Visit, around: u64) -> u64
 fn say_next<R: Repository, S: ReplySink>(
     alloc: Global,
     trees: &TwoTrees<R>,
-    visit: &Visit,
+    visit: &DriveVisit,
     around: u64,
     out: &mut S,
 ) -> Result<u64, AllocError>
-    requires { around + 1 < 2 ^ 64 }
-    ensures after { Makes result (around_after around visit.now) }
+    requires around { around + 1 < 2 ^ 64 }
+    requires known { IsVisitKnown (on_trees trees.now IsKnownOf) visit.now }
+    ensures after { Makes result (around_after around (visit_of visit.now)) }
     ensures said { Sends result (S.writes out.old out.new)
-        (on_trees trees.now visit_commands around visit.now) }
+        (on_trees trees.now visit_commands around (visit_of visit.now)) }
 {
     say_visit(alloc, trees, visit, around, out)?;
     Ok(around_after(visit, around))

@@ -16,7 +16,7 @@ placed_entry trees place = by (trees place.revision place.path)
     part : Subtree
     part = reported_subtree place.revision place.starts_empty place.depth place.token
 
-    by : (o : Option Entry) → option_map (λ (h : ReportedEntry). h.entry) (option_map (λ e. reported_as part part.depth part.token (top_entry part.starts_empty e)) o) ≡ option_map (top_entry place.starts_empty) o
+    by : (o : Option Entry) → option_map (λ (h : ReportedEntry). h.entry) (option_map (λ e. reported_as part place.path part.depth part.token (top_entry part.starts_empty e)) o) ≡ option_map (top_entry place.starts_empty) o
     by None = refl
     by (Some e) = refl
 

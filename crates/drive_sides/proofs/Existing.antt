@@ -14,7 +14,7 @@ use Rattle.drive_rules.specs.declared.depth.Depth.TheVariants.{Empty, Files, Imm
 use Rattle.drive_news.proofs.Changes.{none_changed}
 use Rattle.drive_news.specs.{News.property_changes, Places.{AreLike, AreUnlike}}
 use Rattle.reporter.proofs.{Children.{AreDistinct, children_all, children_are}, Existing.{IsDecided, some_left}}
-use Rattle.reporter.specs.{Left.IsLeft, Visiting.MayVisit, Walks.IsListed, declared.visit.Visit.Visit, declared.visitor.Visitor.Visitor}
+use Rattle.reporter.specs.{Left.IsLeft, Visiting.MayVisit, Walks.IsListed, Visits.Visit, declared.visitor.Visitor.Visitor}
 use Rattle.drive_reports.proofs.Holding.{comparable}
 use Rattle.drive_reports.specs.Reported.{ReportedTree, has_place, in_graft, in_subtree, left_by, reported_as, with_graft}
 use Rattle.drive_reports.specs.{Aims.aim_at, Targets.{WholeReport, new_tree, old_tree, stale_in}, declared.graft.Graft.Graft, declared.graft.Subtree.Subtree}
@@ -145,14 +145,14 @@ mapped f (Some x) h = refl
 subtree_there : (trees : ℕ → Tree) (from : PathValue) (s : Subtree) (front : List Component) (c : Component) → is_some (in_subtree trees from s (front ++ c ∷ [])) ≡ true → is_some (trees s.revision (from ++ (front ++ c ∷ []))) ≡ true
 subtree_there trees from s [] c h = by s.starts_empty h
   where
-    by : (b : Bool) → is_some (if b then None else option_map (reported_as s (depth_below s.depth) None) (left_by s.depth [] (trees s.revision (from ++ c ∷ [])))) ≡ true → is_some (trees s.revision (from ++ c ∷ [])) ≡ true
+    by : (b : Bool) → is_some (if b then None else option_map (reported_as s (from ++ c ∷ []) (depth_below s.depth) None) (left_by s.depth [] (trees s.revision (from ++ c ∷ [])))) ≡ true → is_some (trees s.revision (from ++ c ∷ [])) ≡ true
     by true g = absurd (false≢true g)
-    by false g = left_there s.depth [] (trees s.revision (from ++ c ∷ [])) (mapped (reported_as s (depth_below s.depth) None) (left_by s.depth [] (trees s.revision (from ++ c ∷ []))) g)
+    by false g = left_there s.depth [] (trees s.revision (from ++ c ∷ [])) (mapped (reported_as s (from ++ c ∷ []) (depth_below s.depth) None) (left_by s.depth [] (trees s.revision (from ++ c ∷ []))) g)
 subtree_there trees from s (x ∷ front) c h = by s.starts_empty h
   where
-    by : (b : Bool) → is_some (if b then None else option_map (reported_as s (depth_below s.depth) None) (left_by s.depth (front ++ c ∷ []) (trees s.revision (from ++ x ∷ (front ++ c ∷ []))))) ≡ true → is_some (trees s.revision (from ++ x ∷ (front ++ c ∷ []))) ≡ true
+    by : (b : Bool) → is_some (if b then None else option_map (reported_as s (from ++ x ∷ (front ++ c ∷ [])) (depth_below s.depth) None) (left_by s.depth (front ++ c ∷ []) (trees s.revision (from ++ x ∷ (front ++ c ∷ []))))) ≡ true → is_some (trees s.revision (from ++ x ∷ (front ++ c ∷ []))) ≡ true
     by true g = absurd (false≢true g)
-    by false g = left_there s.depth (front ++ c ∷ []) (trees s.revision (from ++ x ∷ (front ++ c ∷ []))) (mapped (reported_as s (depth_below s.depth) None) (left_by s.depth (front ++ c ∷ []) (trees s.revision (from ++ x ∷ (front ++ c ∷ [])))) g)
+    by false g = left_there s.depth (front ++ c ∷ []) (trees s.revision (from ++ x ∷ (front ++ c ∷ []))) (mapped (reported_as s (from ++ x ∷ (front ++ c ∷ [])) (depth_below s.depth) None) (left_by s.depth (front ++ c ∷ []) (trees s.revision (from ++ x ∷ (front ++ c ∷ [])))) g)
 
 child_rest : (p k : PathValue) (c : Component) → is_at_or_under p k ≡ true → drop (length k) (p ++ c ∷ []) ≡ drop (length k) p ++ c ∷ []
 child_rest p k c up = ap (λ q. drop (length k) (q ++ c ∷ [])) (under_is p k up) ∙ ap (drop (length k)) (append_assoc k (drop (length k) p) (c ∷ [])) ∙ rest_append k (drop (length k) p ++ c ∷ [])

@@ -1,15 +1,17 @@
 -- What is known of the paths of a drive, and in their lists.
-use Rattle.std.proofs.{Common.{◌≡◌, ◌+◌, ◌<◌, ◌≤◌, ℕ, Bool, true, false, cond, List, [], ◌∷◌, ◌++◌, length, drop, get_or, Option, None, option_map, sym, ap, ◌∙◌, refl, subst}, lemmas.List.{append_assoc, append-nil, map-append}}
-use Rattle.std.specs.Prelude.{IfOk, Result, Ok, Err, Vec}
+use Rattle.std.proofs.{Common.{◌≡◌, ◌+◌, ◌<◌, ◌≤◌, ℕ, Bool, true, false, cond, ◌&&◌, List, [], ◌∷◌, ◌++◌, length, drop, get_or, Option, None, option_map, inl, inr, sym, ap, ◌∙◌, refl, subst}, lemmas.{Bool.false≢true, List.{append_assoc, append-nil, map-append}}}
+use Rattle.std.specs.Prelude.{IfOk, Result, Ok, Err, Some, Vec, is_some}
 use Rattle.svnpath.specs.{PathLaws.{rest_append, under_append}, Paths.{Component, is_at_or_under, PathValue}}
-use Rattle.repo_api.specs.{Kinds.kind_of, States.{RepoState, trees_in}, declared.entry.Entry.Entry, declared.entry.NodeKind.NodeKind}
+use Rattle.repo_api.specs.{Histories.history_of, Kinds.kind_of, States.{RepoState, trees_in}, declared.entry.Entry.Entry, declared.entry.NodeKind.NodeKind}
+use Rattle.history.specs.{Lines.is_one_line, Logs.place_at}
 use Rattle.drive_rules.proofs.Entries.{under_more}
-use Rattle.reporter.specs.{Knowing.{IsKnownAt, paths_of}, Walks.IsChild, declared.known_path.KnownPath.KnownPath}
-use Rattle.drive_reports.specs.{Aims.{Aim, aim_at, aim_of, are_of_one_kind, entry_led}, Links.{led_to, link_at}, Reported.ReportedEntry, Targets.{WholeReport, client_entries, client_tree}}
+use Rattle.reporter.specs.{Knowing.{IsKnownAt, paths_of}, Walks.{AreAlike, IsChild, LeavesUnlike, WalkedTrees}, declared.known_path.KnownPath.KnownPath}
+use Rattle.drive_reports.specs.{Aims.{Aim, aim_at, aim_of, are_of_one_kind, entry_led, is_of_line, keeps_line}, Links.{led_to, link_at}, Places.reported_subtree, Reported.{ReportedEntry, reported_as, top_entry}}
+use Rattle.drive_reports.specs.{Targets.{WholeReport, client_entries, client_tree}, declared.graft.Subtree.Subtree, declared.reported.ReportedPlace.ReportedPlace}
 use Rattle.drive_reports.specs.declared.graft.Graft.{Graft}
 use Rattle.drive_reports.proofs.Aiming.{aim_child}
 use Rattle.drive_sides.proofs.Reaching.{next_name, no_more}
-use Rattle.drive_sides.specs.{Known.{holder_at, IsKnownOf, IsLedBy, IsLedFrom}, declared.known.DriveKnown.DriveKnown, declared.leading.Holder.Holder}
+use Rattle.drive_sides.specs.{Known.{holder_at, IsHadAt, IsKnownOf, IsLedBy, IsLedFrom}, declared.known.DriveKnown.DriveKnown, declared.leading.Holder.Holder}
 
 -- what is in a directory at or under the target is under it
 pub child_in : (top p x : PathValue) → is_at_or_under p top ≡ true → IsChild p x → is_at_or_under x top ≡ true
@@ -17,21 +19,34 @@ child_in top p x under (c, is) = under_more x p top (subst (λ y. is_at_or_under
 
 -- ---- lists
 
--- the paths of what was made of paths are those
-pub listed_places : {K A E : Type 0} (holds : List PathValue → Type 0) (xs : List PathValue) (r : Result (Vec (KnownPath K) A) E) → IfOk r (λ v. paths_of v.items ≡ xs) → holds xs → IfOk r (λ v. holds (paths_of v.items))
-listed_places holds xs (Ok v) same h = subst holds (sym same) h
-listed_places holds xs (Err e) same h = same
+-- a path of a directory, rebased
+pub rebased_child : (p x base : PathValue) (name : Component) → x ≡ p ++ name ∷ [] → base ++ drop (length p) x ≡ base ++ name ∷ []
+rebased_child p x base name is = ap (λ y. base ++ drop (length p) y) is ∙ ap (λ r. base ++ r) (rest_append p (name ∷ []))
 
--- the next path has become a place
-pub next_placed : {K : Type 0} (all : List PathValue) (places new : List (KnownPath K)) (left rest : List PathValue) (p : PathValue) (place : KnownPath K) → left ≡ p ∷ rest → new ≡ places ++ place ∷ [] → place.path ≡ p
-    → paths_of places ++ left ≡ all → paths_of new ++ rest ≡ all
-next_placed all places new left rest p place next pushed is so =
-    ap (λ zs. paths_of zs ++ rest) pushed ∙ ap (λ zs. zs ++ rest) (map-append (λ y. y.path) places (place ∷ [])) ∙ ap (λ x. (paths_of places ++ x ∷ []) ++ rest) is ∙ append_assoc (paths_of places) (p ∷ []) rest
-    ∙ ap (λ xs. paths_of places ++ xs) (sym next) ∙ so
+-- ---- what is left of paths
 
--- all have
-pub all_placed : {K : Type 0} (all : List PathValue) (places : List (KnownPath K)) (left : List PathValue) → left ≡ [] → paths_of places ++ left ≡ all → paths_of places ≡ all
-all_placed all places left none so = sym (append-nil (paths_of places)) ∙ ap (λ xs. paths_of places ++ xs) (sym none) ∙ so
+module _ (t : WalkedTrees) where
+  -- all is left
+  pub all_left : (paths : List PathValue) (kept : List PathValue) (rest : List PathValue) → kept ≡ [] → LeavesUnlike t paths rest → LeavesUnlike t paths (kept ++ rest)
+  all_left paths kept rest none left = subst (λ ks. LeavesUnlike t paths (ks ++ rest)) (sym none) left
+
+  -- the next is not, where it is alike
+  pub next_out : (left after : List PathValue) (x : PathValue) (rest : List PathValue) → left ≡ x ∷ after → AreAlike t x → LeavesUnlike t after rest → LeavesUnlike t left rest
+  next_out left after x rest is alike leaves = subst (λ ps. LeavesUnlike t ps rest) (sym is) (inl (alike, leaves))
+
+  -- or else it is
+  pub next_in : (left after : List PathValue) (x : PathValue) (rest : List PathValue) → left ≡ x ∷ after → LeavesUnlike t after rest → LeavesUnlike t left (x ∷ rest)
+  next_in left after x rest is leaves = subst (λ ps. LeavesUnlike t ps (x ∷ rest)) (sym is) (inr (rest, refl, leaves))
+
+  -- none is left of none
+  pub none_out : (left : List PathValue) → left ≡ [] → LeavesUnlike t left []
+  none_out left none = subst (λ ps. LeavesUnlike t ps []) (sym none) refl
+
+-- the paths with one more
+pub paths_more : {K : Type 0} (places new : List (KnownPath K)) (place : KnownPath K) (p : PathValue) (rest : List PathValue) → new ≡ places ++ place ∷ [] → place.path ≡ p → paths_of places ++ p ∷ rest ≡ paths_of new ++ rest
+paths_more places new place p rest pushed is =
+    ap (λ x. paths_of places ++ x ∷ rest) (sym is) ∙ sym (append_assoc (paths_of places) (place.path ∷ []) rest) ∙ ap (λ zs. zs ++ rest) (sym (map-append (λ y. y.path) places (place ∷ [])))
+    ∙ ap (λ zs. paths_of zs ++ rest) (sym pushed)
 
 -- ---- one path
 
@@ -83,8 +98,56 @@ module _ (c : RepoState) (report : WholeReport) (holder : Holder) (p own goal : 
   pub kind_led : kind ≡ kind_of (aim_of c report holder.counts holder.may_stand p own).entry
   kind_led = kind_is Old Stands old_led there_led ∙ ap (λ l. kind_of (entry_led l Old Stands)) link_is
 
-  pub stays_led : (stays : Bool) → ((e f : Option Entry) → old ≡ kind_of e → kind ≡ kind_of f → stays ≡ are_of_one_kind e f) → stays ≡ (aim_of c report holder.counts holder.may_stand p own).stays
-  stays_led stays same = same Old (aim_of c report holder.counts holder.may_stand p own).entry old_led kind_led
+  abbrev Aimed : Aim
+  Aimed = aim_of c report holder.counts holder.may_stand p own
+
+  kind_kept : (kept : Bool) → ((e f : Option Entry) → old ≡ kind_of e → kind ≡ kind_of f → kept ≡ are_of_one_kind e f) → kept ≡ are_of_one_kind Old Aimed.entry
+  kind_kept kept same = same Old Aimed.entry old_led kind_led
+
+  -- of what is not counted nothing is asked
+  counted_line : (b : Bool) (e : Option Entry) (l : Option Graft) (from : PathValue)
+      → (are_of_one_kind (option_map (λ (h : ReportedEntry). h.entry) (cond b (client_tree c report p) None)) e && keeps_line c report.ask l p (client_tree c report p) from)
+      ≡ (are_of_one_kind (option_map (λ (h : ReportedEntry). h.entry) (cond b (client_tree c report p) None)) e && keeps_line c report.ask l p (cond b (client_tree c report p) None) from)
+  counted_line true e l from = refl
+  counted_line false e l from = refl
+
+  -- what stays is of one kind, and keeps its line
+  pub stays_led : (kept line : Bool) → ((e f : Option Entry) → old ≡ kind_of e → kind ≡ kind_of f → kept ≡ are_of_one_kind e f)
+      → line ≡ keeps_line c report.ask link p (client_tree c report p) goal → (kept && line) ≡ Aimed.stays
+  stays_led kept line same is =
+      ap (λ k. k && line) (kind_kept kept same)
+      ∙ ap (λ l. are_of_one_kind Old Aimed.entry && l)
+      (is ∙ ap (λ l. keeps_line c report.ask l p (client_tree c report p) goal) link_is ∙ ap (keeps_line c report.ask Led p (client_tree c report p)) goal_led)
+      ∙ counted_line holder.counts Aimed.entry Led Aimed.from
+
+  -- and what is of another kind goes
+  pub goes_led : (kept : Bool) → ((e f : Option Entry) → old ≡ kind_of e → kind ≡ kind_of f → kept ≡ are_of_one_kind e f) → kept ≡ false → false ≡ Aimed.stays
+  goes_led kept same other =
+      ap (λ k. k && keeps_line c report.ask Led p (cond holder.counts (client_tree c report p) None) Aimed.from) (sym other ∙ kind_kept kept same)
+
+-- ---- lines of history
+
+-- the line of what is had at a place is that of the place
+pub of_line_at : (c : RepoState) (report : WholeReport) (p from : PathValue) (place : ReportedPlace) → IsHadAt c report p (Some place)
+    → is_of_line c report.ask (client_tree c report p) from ≡ is_one_line (history_of c) (place_at place.revision place.path) (place_at report.ask.revision from)
+of_line_at c report p from place had =
+    ap (λ o. is_of_line c report.ask o from) had.here
+    ∙ by (trees_in c.revisions place.revision place.path) (had.stands ∙ ap is_some had.here)
+  where
+    part : Subtree
+    part = reported_subtree place.revision place.starts_empty place.depth place.token
+
+    shown : Option Entry → Option ReportedEntry
+    shown o = option_map (λ e. reported_as part place.path part.depth part.token (top_entry part.starts_empty e)) o
+
+    by : (o : Option Entry) → true ≡ is_some (shown o)
+        → is_of_line c report.ask (shown o) from ≡ is_one_line (history_of c) (place_at place.revision place.path) (place_at report.ask.revision from)
+    by None some = absurd (false≢true (sym some))
+    by (Some e) some = refl
+
+-- of nothing there is none
+pub of_no_line : (c : RepoState) (report : WholeReport) (p from : PathValue) → IsHadAt c report p None → is_of_line c report.ask (client_tree c report p) from ≡ false
+of_no_line c report p from had = ap (λ o. is_of_line c report.ask o from) had.here
 
 -- ---- one name after another
 

@@ -45,7 +45,7 @@ placed_there : (trees : ℕ → Tree) (place : ReportedPlace) (c : Component) �
 placed_there trees place c h = by place.starts_empty h
   where
     shown : Entry → ReportedEntry
-    shown = reported_as (reported_subtree place.revision place.starts_empty place.depth place.token) (depth_below place.depth) None
+    shown = reported_as (reported_subtree place.revision place.starts_empty place.depth place.token) (place.path ++ c ∷ []) (depth_below place.depth) None
 
     by : (b : Bool) → is_some (cond b None (option_map shown (left_by place.depth [] (trees place.revision (place.path ++ c ∷ []))))) ≡ true → is_some (trees place.revision (place.path ++ c ∷ [])) ≡ true
     by true h = absurd (false≢true h)
@@ -189,7 +189,7 @@ pub none_in : (trees : ℕ → Tree) (place : ReportedPlace) (c : Component) →
 none_in trees place c alone some names = absurd (false≢true (sym (ap is_some (none alone)) ∙ some))
   where
     shown : Entry → ReportedEntry
-    shown = reported_as (reported_subtree place.revision place.starts_empty place.depth place.token) (depth_below place.depth) None
+    shown = reported_as (reported_subtree place.revision place.starts_empty place.depth place.token) (place.path ++ c ∷ []) (depth_below place.depth) None
 
     stood : Option Entry
     stood = trees place.revision (place.path ++ c ∷ [])

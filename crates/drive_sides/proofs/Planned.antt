@@ -9,8 +9,8 @@ use Rattle.repo_api.specs.{Soundness.AreTrees, States.{RepoState, trees_in}, Tre
 use Rattle.drive_rules.specs.{Places.is_in_directory, Drives.{IsInBoth, IsOfOneKind}, Scopes.{below, depth_below, hides_nothing, scope_of, under}}
 use Rattle.drive_wire.specs.Sent.{seen_by}
 use Rattle.drive_news.specs.News.{own_steps_of}
-use Rattle.reporter.specs.{Left.{IsRootPlan, IsTopPlan}, Nesting.AreNested, Visits.IsRightPlan, Walks.BothHold, declared.visit.Visit.Visit}
-use Rattle.reporter.specs.declared.visit.Visit.TheVariants.{Open}
+use Rattle.reporter.specs.{Left.{IsRootPlan, IsTopPlan}, Nesting.AreNested, Visits.IsRightPlan, Walks.BothHold, Visits.Visit}
+use Rattle.reporter.specs.Visits.Visit.{Open}
 use Rattle.drive_reports.proofs.{Aiming.{apart_under, both_directories, one_kind, other_stays, root_entry, root_stays, stays_kind}, Drives.both_hold}
 use Rattle.drive_reports.specs.{Refusing.{OpenState, ◌>>=◌, ok_if, has_goal, has_anchor, finish_root}, Reported.{ReportedEntry, reported_entries}}
 use Rattle.drive_reports.specs.{Aims.aim_at, Targets.{WholeReport, client_entries, client_tree, drive_scope, limit_of, reported_tree, is_apart, old_tree, new_tree, stale_in, target_entries}}

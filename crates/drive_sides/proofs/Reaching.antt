@@ -87,15 +87,15 @@ deep_of f deep (Some e) = deep e
 
 deep_subtree : (trees : ℕ → Tree) (from : PathValue) (s : Subtree) (rest : List Component) → s.depth ≡ Infinity
     → depth_had (in_subtree trees from s rest) ≡ Infinity
-deep_subtree trees from s [] deep = deep_of (λ e. reported_as s s.depth s.token (top_entry s.starts_empty e)) (λ e. deep) (trees s.revision from)
+deep_subtree trees from s [] deep = deep_of (λ e. reported_as s from s.depth s.token (top_entry s.starts_empty e)) (λ e. deep) (trees s.revision from)
 deep_subtree trees from s (c ∷ rest) deep = by s.starts_empty
   where
     beneath : Option ReportedEntry
-    beneath = option_map (reported_as s (depth_below s.depth) None) (left_by s.depth rest (trees s.revision (from ++ c ∷ rest)))
+    beneath = option_map (reported_as s (from ++ c ∷ rest) (depth_below s.depth) None) (left_by s.depth rest (trees s.revision (from ++ c ∷ rest)))
 
     by : (b : Bool) → depth_had (cond b None beneath) ≡ Infinity
     by true = refl
-    by false = deep_of (reported_as s (depth_below s.depth) None) (λ e. ap depth_below deep) (left_by s.depth rest (trees s.revision (from ++ c ∷ rest)))
+    by false = deep_of (reported_as s (from ++ c ∷ rest) (depth_below s.depth) None) (λ e. ap depth_below deep) (left_by s.depth rest (trees s.revision (from ++ c ∷ rest)))
 
 to_the_end : (d : Depth) → is_to_the_end d ≡ true → d ≡ Infinity
 to_the_end Empty h = absurd (false≢true h)

@@ -3,6 +3,7 @@ pub mod Bounds
 pub mod Depths
 pub mod Known
 pub mod LeadLaws
+pub mod Lines
 pub mod Names
 pub mod OnTrees
 pub mod Pairs

@@ -3,7 +3,7 @@ use Rattle.std.specs.Prelude.{◌≡◌, true, List, [], ◌∷◌, Some, if◌t
 use Rattle.svnpath.specs.Paths.{PathValue, same_path}
 use Rattle.repo_api.specs.States.{RepoState}
 use Rattle.drive_rules.specs.Scopes.{under}
-use Rattle.reporter.specs.{Nesting.walk, Visits.IsRightPlan, Walks.WalkedTrees, declared.visit.Visit.Visit, declared.visit.Visit.TheVariants.Open}
+use Rattle.reporter.specs.{Nesting.walk, Visits.IsRightPlan, Walks.WalkedTrees, Visits.Visit, Visits.Visit.Open}
 use Rattle.drive_reports.specs.{Refusing.OpenState, Targets.{WholeReport, is_apart, old_tree, new_tree, stale_in}, declared.ask.DriveAsk.DriveAsk}
 use Rattle.drive_reports.specs.declared.report.ReportRoot.{ReportRoot}
 use Rattle.drive_wire.specs.Sent.{seen_by}

@@ -1,16 +1,14 @@
 //! What is known of the paths of a drive.
-ghost use Rattle.std.specs.Prelude.{◌≡◌, true, All, IfOk};
-ghost use Rattle.svnpath.specs.Paths.{is_at_or_under};
-ghost use Rattle.reporter.specs.{Knowing.{AreKnown, IsKnown, IsKnownAt, paths_of}, Walks.IsChild};
+ghost use Rattle.std.specs.Prelude.{◌≡◌, IfOk};
+ghost use Rattle.reporter.specs.{Knowing.{IsKnown, IsKnownAt}, Walks.IsChild};
 ghost use Rattle.drive_sides.specs.{Known.{holder_at, IsKnownOf}, OnTrees.on_trees};
 
 use crate::leading::Holder;
 use crate::two_trees::TwoTrees;
 use drive_reports::ReportedPlace;
 use repo_api::{NodeKind, Repository};
-use reporter::{KnownPath, Visitor};
+use reporter::{KnownPath, KnownVisit, Visitor};
 use std::alloc::{AllocError, Global};
-use std::collections::VecDeque;
 use svnpath::Path;
 
 /// What is known of a path at or under the target of a drive: the path of the repository that it is to stand for, and the
@@ -35,6 +33,9 @@ impl Drop for DriveKnown {
 
 /// A path of a drive, with what is known of it.
 pub type DrivePlace = KnownPath<DriveKnown>;
+
+/// A visit of a drive, with what is known of the path of an entry that it enters.
+pub type DriveVisit = KnownVisit<DriveKnown>;
 
 /// The visits of a drive, made as they are asked for.
 pub type DriveVisitor = Visitor<DriveKnown>;
@@ -128,39 +129,5 @@ impl<'a, R: Repository> TwoTrees<'a, R> {
     {
         let own = path.rebased(alloc, &place.path, &place.known.goal)?;
         self.place_from(alloc, path, own, self.holder_at(place))
-    }
-
-    /// Finds what is known of a path at or under the target, one name after another.
-    pub(crate) fn place_at(&self, alloc: Global, path: &Path) -> Result<DrivePlace, AllocError>
-        requires { is_at_or_under path.now self.now.report.now.ask.target ≡ true }
-        ensures { IfOk result (IsKnownAt (on_trees self.now IsKnownOf) path.now) }
-    {
-        let target = self.report.ask.target.as_path();
-        let mut place = self.top_place(alloc)?;
-        for name in &path.components()[target.len()..] {
-            let child = place.path.child(alloc, name.clone()?)?;
-            place = self.child_place(alloc, &place, child)?;
-        }
-        Ok(place)
-    }
-
-    /// Finds what is known of paths in the directory of a path of which this is known.
-    pub(crate) fn child_places(
-        &self,
-        alloc: Global,
-        place: &DrivePlace,
-        paths: Vec<Path>,
-    ) -> Result<Vec<DrivePlace>, AllocError>
-        requires known { IsKnown (on_trees self.now IsKnownOf) place.now }
-        requires children { All (IsChild place.now.path) paths.items }
-        ensures paths { IfOk result (λ v. paths_of v.items ≡ paths.items) }
-        ensures known { IfOk result (λ v. AreKnown (on_trees self.now IsKnownOf) v.items) }
-    {
-        let mut places = Vec::new(alloc);
-        let mut left = VecDeque::from_vec(paths);
-        while let Some(path) = left.pop_front() {
-            places.push(self.child_place(alloc, place, path)?)?;
-        }
-        Ok(places)
     }
 }

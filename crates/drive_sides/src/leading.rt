@@ -99,13 +99,14 @@ impl<'a, R: Repository> TwoTrees<'a, R> {
         );
         let old = kind_if(holder.counts, self.kind_at(&path, &had));
         let kind = kind_led(link, old, there);
+        let stays = are_of_one_kind(old, kind) && self.keeps_line(alloc, &path, link, &had, &goal)?;
         Ok(KnownPath {
             path,
             known: DriveKnown {
                 goal,
                 kind,
                 had,
-                stays: are_of_one_kind(old, kind),
+                stays,
             },
         })
     }

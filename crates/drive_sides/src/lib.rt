@@ -4,6 +4,7 @@
 mod alike;
 mod known;
 mod leading;
+mod lines;
 mod names;
 mod pairs;
 mod planning;
@@ -12,8 +13,9 @@ mod scope;
 mod sides;
 mod telling;
 mod two_trees;
+mod unlike;
 mod views;
 
-pub use known::{DriveKnown, DrivePlace, DriveVisitor};
+pub use known::{DriveKnown, DrivePlace, DriveVisit, DriveVisitor};
 pub use planning::visitor;
 pub use two_trees::TwoTrees;

@@ -1,14 +1,17 @@
 //! The pairs of entries of a drive, of which everything is had and asked for.
-ghost use Rattle.std.specs.Prelude.{◌≡◌, true, None, IfSome};
+ghost use Rattle.std.specs.Prelude.{◌≡◌, true, None, IfOk, IfSome};
 ghost use Rattle.repo_api.specs.Readings.{IsSameAt};
 ghost use Rattle.reporter.specs.Knowing.{IsKnown};
-ghost use Rattle.drive_sides.specs.{Depths.IsWhole, Known.IsKnownOf, OnTrees.on_trees, Pairs.IsPairAt};
+ghost use Rattle.drive_sides.specs.{Depths.IsWhole, Known.IsKnownOf, OnTrees.on_trees, Pairs.{AreOnePair, HaveSameLines, IsPairAt}};
 
 use crate::alike::is_whole;
 use crate::known::DrivePlace;
+use crate::lines::keeps_lines;
 use crate::two_trees::TwoTrees;
-use drive_reports::ReportedPlace;
+use drive_news::Place;
+use drive_reports::{DriveAsk, ReportedPlace};
 use repo_api::Repository;
+use std::alloc::{AllocError, Global};
 use svnpath::Path;
 
 /// Where the two entries of a path of a drive are, of which everything is had and asked for: one at a path of a revision, the
@@ -41,18 +44,64 @@ fn pair_of<'p>(place: &'p ReportedPlace, goal: &'p Path) -> Option<EntryPair<'p>
 }
 
 /// Says whether a repository can tell that two pairs have the same on either side. The new entries are of this revision.
-pub(crate) fn are_same<R: Repository>(
-    view: &R,
-    revision: u64,
-    one: EntryPair<'_>,
-    two: EntryPair<'_>,
-) -> bool
+fn are_same<R: Repository>(view: &R, revision: u64, one: EntryPair<'_>, two: EntryPair<'_>) -> bool
     ensures { result ≡ true
         → IsSameAt (R.content view.now) one.entry.revision one.entry.old.now two.entry.revision two.entry.old.now
         × IsSameAt (R.content view.now) revision one.entry.new.now revision two.entry.new.now }
 {
     view.is_same(one.revision, one.old, two.revision, two.old)
         && view.is_same(revision, one.new, revision, two.new)
+}
+
+/// Says whether lines of history let the same stay beneath two pairs.
+fn have_same_lines<R: Repository>(
+    alloc: Global,
+    view: &R,
+    ask: &DriveAsk,
+    one: EntryPair<'_>,
+    two: EntryPair<'_>,
+) -> Result<bool, AllocError>
+    ensures { IfOk result (λ same. same ≡ true
+        → HaveSameLines (R.content view.now) ask.now one.entry two.entry) }
+{
+    let old_one = Place {
+        revision: one.revision,
+        path: one.old,
+    };
+    let old_two = Place {
+        revision: two.revision,
+        path: two.old,
+    };
+    if !keeps_lines(alloc, view, ask, old_one, old_two)? {
+        return Ok(false);
+    }
+    let new_one = Place {
+        revision: ask.revision,
+        path: one.new,
+    };
+    let new_two = Place {
+        revision: ask.revision,
+        path: two.new,
+    };
+    keeps_lines(alloc, view, ask, new_one, new_two)
+}
+
+/// Says whether a repository can tell that two pairs are one: they have the same on either side, and lines of history let
+/// the same stay beneath both.
+pub(crate) fn are_one_pair<R: Repository>(
+    alloc: Global,
+    view: &R,
+    ask: &DriveAsk,
+    one: EntryPair<'_>,
+    two: EntryPair<'_>,
+) -> Result<bool, AllocError>
+    ensures { IfOk result (λ same. same ≡ true
+        → AreOnePair (R.content view.now) ask.now one.entry two.entry) }
+{
+    if !are_same(view, ask.revision, one, two) {
+        return Ok(false);
+    }
+    have_same_lines(alloc, view, ask, one, two)
 }
 
 /// Mixes a further number into a key.

@@ -1,7 +1,7 @@
 //! The visits of a drive.
 ghost use Rattle.std.specs.Prelude.{◌≡◌, Ok, IfOk, List};
 ghost use Rattle.repo_api.specs.Soundness.{AreTrees};
-ghost use Rattle.reporter.specs.{Knowing.HoldsKnown, Visiting.MayVisit, declared.visit.Visit.Visit};
+ghost use Rattle.reporter.specs.{Knowing.HoldsKnown, Visiting.MayVisit, Visits.Visit};
 ghost use Rattle.drive_reports.specs.Refusing.{finish_root};
 ghost use Rattle.drive_sides.specs.{Known.IsKnownOf, OnTrees.on_trees, Plans.{IsPlan, drive_trees}};
 

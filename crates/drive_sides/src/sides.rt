@@ -1,9 +1,8 @@
 //! The two trees of a drive, as a walk over them asks.
-use crate::alike::has_same;
 use crate::known::{DriveKnown, DrivePlace, drive_place_copied};
 use crate::leading::is_apart;
 use crate::names::{children_of, put_graft_names, put_names, put_place_names};
-use crate::pairs::{are_same, key_of};
+use crate::pairs::{are_one_pair, key_of};
 use crate::reach::Reach;
 use crate::two_trees::TwoTrees;
 use crate::views::had_at;
@@ -153,23 +152,29 @@ impl<'a, R: Repository> Sides for TwoTrees<'a, R> {
         })
     }
 
-    fn children(&self, alloc: Global, place: &DrivePlace) -> Result<Vec<DrivePlace>, AllocError> {
-        let paths = self.child_paths(alloc, place)?;
-        self.child_places(alloc, place, paths)
+    fn children(&self, alloc: Global, place: &DrivePlace) -> Result<Vec<Path>, AllocError> {
+        self.child_paths(alloc, place)
     }
 
-    fn is_alike(&self, _alloc: Global, place: &DrivePlace) -> Result<bool, AllocError> {
-        if !place.known.stays {
-            return Ok(false);
+    fn reached(
+        &self,
+        alloc: Global,
+        from: &DrivePlace,
+        path: Path,
+    ) -> Result<DrivePlace, AllocError> {
+        if path == from.path {
+            return drive_place_copied(from);
         }
-        if self.report.grafts.has_beneath(&place.path) {
-            return Ok(false);
-        }
-        let revision = self.report.ask.revision;
-        match &place.known.had {
-            None => Ok(false),
-            Some(had) => Ok(has_same(self.view, had, revision, &place.known.goal)),
-        }
+        self.child_place(alloc, from, path)
+    }
+
+    fn unlike_children(
+        &self,
+        alloc: Global,
+        place: &DrivePlace,
+    ) -> Result<Vec<DrivePlace>, AllocError> {
+        let paths = self.child_paths(alloc, place)?;
+        self.unlike_places(alloc, place, paths)
     }
 
     fn pair_key(&self, _alloc: Global, place: &DrivePlace) -> Result<Option<u64>, AllocError> {
@@ -181,7 +186,7 @@ impl<'a, R: Repository> Sides for TwoTrees<'a, R> {
 
     fn is_same_pair(
         &self,
-        _alloc: Global,
+        alloc: Global,
         place: &DrivePlace,
         other: &DrivePlace,
     ) -> Result<bool, AllocError> {
@@ -190,7 +195,7 @@ impl<'a, R: Repository> Sides for TwoTrees<'a, R> {
         };
         match self.pair_at(other) {
             None => Ok(false),
-            Some(two) => Ok(are_same(self.view, self.report.ask.revision, one, two)),
+            Some(two) => are_one_pair(alloc, self.view, &self.report.ask, one, two),
         }
     }
 

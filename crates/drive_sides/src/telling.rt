@@ -1,7 +1,7 @@
 //! What the entries of a drive are told, and what else is to be known of them.
 ghost use Rattle.std.specs.Prelude.{◌≡◌, true, IfOk, option_and_then, option_map};
 ghost use Rattle.reporter.specs.Knowing.{IsKnown};
-ghost use Rattle.drive_reports.specs.Targets.{client_tree, drive_scope, is_stale, new_tree, stale_in};
+ghost use Rattle.drive_reports.specs.Targets.{client_tree, drive_scope, is_stale, keeps_token, new_tree, stale_in};
 ghost use Rattle.drive_news.specs.{News.{news_at, news_of}, Places.entry_had};
 ghost use Rattle.drive_sides.specs.{Known.IsKnownOf, OnTrees.on_trees};
 
@@ -11,14 +11,24 @@ use crate::views::had_at;
 use drive_news::{Had, News, Place, Sight, news_of};
 use repo_api::Repository;
 use std::alloc::{AllocError, Global};
-use svnpath::Path;
 
 impl<'a, R: Repository> TwoTrees<'a, R> {
+    /// Says whether what is reported of a path keeps its token: to a client of today only where it stays.
+    fn keeps_token(&self, place: &DrivePlace) -> bool
+        requires { IsKnown (on_trees self.now IsKnownOf) place.now }
+        ensures { result ≡ on_trees self.now keeps_token place.now.path }
+    {
+        !self.report.ask.is_of_today || place.known.stays
+    }
+
     /// Says whether the client's token of a path is stale.
     fn is_stale(&self, place: &DrivePlace) -> bool
         requires { IsKnown (on_trees self.now IsKnownOf) place.now }
         ensures { result ≡ on_trees self.now is_stale place.now.path }
     {
+        if !self.keeps_token(place) {
+            return false;
+        }
         let Some(had) = &place.known.had else {
             return false;
         };
@@ -45,14 +55,15 @@ impl<'a, R: Repository> TwoTrees<'a, R> {
         Ok(self.is_stale(place))
     }
 
-    /// Finds the revision that the client reports of what it has at a path.
-    pub fn reported_revision(&self, alloc: Global, path: &Path) -> Result<Option<u64>, AllocError>
-        ensures { IfOk result (λ found. found ≡ option_map (λ h. h.revision)
-            (on_trees self.now client_tree path.now)) }
+    /// Gives the revision that the client reports of what it has at a path.
+    pub fn reported_revision(&self, place: &DrivePlace) -> Option<u64>
+        requires { IsKnown (on_trees self.now IsKnownOf) place.now }
+        ensures { result ≡ option_map (λ h. h.revision)
+            (on_trees self.now client_tree place.now.path) }
     {
-        match self.client_place(alloc, path)? {
-            None => Ok(None),
-            Some(place) => Ok(Some(place.revision)),
+        match &place.known.had {
+            None => None,
+            Some(had) => Some(had.revision),
         }
     }
 
@@ -112,16 +123,17 @@ impl<'a, R: Repository> TwoTrees<'a, R> {
     pub fn news(
         &self,
         alloc: Global,
-        path: &Path,
+        place: &DrivePlace,
         is_anew: bool,
     ) -> Result<Option<News>, AllocError>
+        requires { IsKnown (on_trees self.now IsKnownOf) place.now }
         ensures { IfOk result (λ found. found ≡ option_map
-            (on_trees self.now news_at path.now is_anew) (on_trees self.now new_tree path.now)) }
+            (on_trees self.now news_at place.now.path is_anew)
+            (on_trees self.now new_tree place.now.path)) }
     {
-        if !self.is_in_scope(alloc, path)? {
+        if !self.is_in_scope(alloc, &place.path)? {
             return Ok(None);
         }
-        let place = self.place_at(alloc, path)?;
-        self.news_of_place(alloc, &place, is_anew)
+        self.news_of_place(alloc, place, is_anew)
     }
 }

@@ -1,6 +1,7 @@
 -- What the commands of a report draw.
 use Rattle.std.specs.Prelude.{◌≡◌, ℕ, List, [], ◌∷◌, Option, Some, None, unwrap_or, Result, Ok, Err, codes, if◌then◌else◌}
 use Rattle.items.specs.Values.{ItemValue, ItemValues, more, none}
+use Rattle.svnpath.specs.Paths.{PathValue}
 use Rattle.refusals.specs.declared.Refusal.{Refusal}
 use Rattle.refusals.specs.declared.Refusal.TheVariants as refusals
 use Rattle.repo_api.specs.{Soundness.AreTrees, States.RepoState}
@@ -11,59 +12,60 @@ use Rattle.wire_reports.specs.{Reporting.{report_command, name_of}, declared.rep
 use Rattle.wire_reports.specs.declared.report.ReportCommand.TheVariants.{SetPath, DeletePath, LinkPath, FinishReport, AbortReport}
 use Rattle.wire_reports.specs.declared.report.ReportName.{ReportName}
 use Rattle.wire_reports.specs.declared.report.ReportName.TheVariants as names
-use Rattle.drive_reports.specs.{Refusing.{OpenState, ReportState, set_path_answer, delete_path_answer, finish_answer, kept_report}, Targets.WholeReport}
+use Rattle.drive_reports.specs.{Refusing.{OpenState, ReportState, set_path_report, delete_path_report, finish_answer}, Targets.WholeReport}
 use Rattle.drive_reports.specs.declared.report.Report.TheVariants.{Refused, Open}
 use Rattle.wire_replies.specs.declared.failures.FailureLink.{FailureLink}
 use Rattle.drive_wire.specs.{Sent.IsDrive, declared.answering.ClientAnswer.ClientAnswer, declared.answering.ClientAnswer.TheVariants.Taken}
 use Rattle.drive_wire.specs.declared.answering.ClientAnswer.TheVariants as answers
 
--- What a command of a report draws: nothing yet; nothing, and the report is given up; a failure; a
--- drive, whose answer is awaited; or a failure that ends the session. A request of a login that
--- asks for nothing stands before a failure and before a drive.
+-- What a command of a report draws: nothing yet; nothing, and the report is given up; a failure,
+-- with the path at which the report is refused, if it is at one; a drive, whose answer is awaited; or
+-- a failure that ends the session. A request of a login that asks for nothing stands before a failure
+-- and before a drive.
 pub data Drawn : Type 0 where
   GoesOn : ReportState → Drawn
   GivenUp : Drawn
-  Fails : Refusal → Drawn
+  Fails : Refusal → Option PathValue → Drawn
   Drives : List EditorCommand → Drawn
   Malformed : Drawn
 
--- the end of a report, over a repository each of whose trees is a tree: its refusal, or a drive
--- that may be sent
-abbrev pub Finishes : RepoState → Result WholeReport Refusal → Drawn → Type 0
-Finishes c (Err r) d = d ≡ Fails r
-Finishes c (Ok report) d =
+-- the end of a report to a goal, over a repository each of whose trees is a tree: its refusal, at the
+-- goal, or a drive that may be sent
+abbrev pub Finishes : RepoState → PathValue → Result WholeReport Refusal → Drawn → Type 0
+Finishes c goal (Err r) d = d ≡ Fails r (Some goal)
+Finishes c goal (Ok report) d =
     (drive : List EditorCommand) × (d ≡ Drives drive) × AreTrees c.revisions
     × IsDrive c report drive
 
 -- the end of a report, by what it comes to
 abbrev pub EndStep : OpenState → RepoState → Drawn → Type 0
-EndStep report c d = Finishes c (finish_answer c (Open report)) d
+EndStep report c d = Finishes c report.ask.goal (finish_answer c (Open report)) d
 
 -- a command of a report that goes on
 abbrev pub OpenStep : List ℕ → OpenState → Result ReportCommand CommandFault → RepoState → Drawn
     → Type 0
 OpenStep name report (Ok (SetPath reported)) c d =
-    d ≡ GoesOn (kept_report (set_path_answer c name report reported None))
+    d ≡ GoesOn (set_path_report c name report reported None)
 OpenStep name report (Ok (LinkPath reported url)) c d =
-    d ≡ GoesOn (kept_report (set_path_answer c name report reported (Some url)))
+    d ≡ GoesOn (set_path_report c name report reported (Some url))
 OpenStep name report (Ok (DeletePath path)) c d =
-    d ≡ GoesOn (kept_report (delete_path_answer report path))
+    d ≡ GoesOn (delete_path_report report path)
 OpenStep name report (Ok FinishReport) c d = EndStep report c d
 OpenStep name report (Ok AbortReport) c d = d ≡ GivenUp
-OpenStep name report (Err UnknownName) c d = d ≡ GoesOn (Refused refusals.UnknownCommand)
+OpenStep name report (Err UnknownName) c d = d ≡ GoesOn (Refused refusals.UnknownCommand None)
 OpenStep name report (Err BadParameters) c d = d ≡ Malformed
 OpenStep name report (Err NoMemory) c d = d ≡ Malformed
 
 -- a command of a report that is refused, which is read by its name alone
-abbrev pub refused_drawn : Refusal → Option (Option ReportName) → Drawn
-refused_drawn r None = Malformed
-refused_drawn r (Some (Some names.FinishReport)) = Fails r
-refused_drawn r (Some (Some names.AbortReport)) = GivenUp
-refused_drawn r (Some _) = GoesOn (Refused r)
+abbrev pub refused_drawn : Refusal → Option PathValue → Option (Option ReportName) → Drawn
+refused_drawn r path None = Malformed
+refused_drawn r path (Some (Some names.FinishReport)) = Fails r path
+refused_drawn r path (Some (Some names.AbortReport)) = GivenUp
+refused_drawn r path (Some _) = GoesOn (Refused r path)
 
 -- what an item draws of a report
 abbrev pub ReportStep : List ℕ → ReportState → ItemValue → RepoState → Drawn → Type 0
-ReportStep name (Refused r) item c d = d ≡ refused_drawn r (name_of item)
+ReportStep name (Refused r path) item c d = d ≡ refused_drawn r path (name_of item)
 ReportStep name (Open report) item c d = OpenStep name report (report_command item) c d
 
 -- ---- the client's answer to a drive

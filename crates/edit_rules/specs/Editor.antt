@@ -1,7 +1,7 @@
 -- The editor of a commit: an edit, and what each command makes of it.
 use Rattle.std.specs.Prelude.{◌≡◌, ℕ, Bool, true, false, is_some, List, [], Option, Some, None, Result, Ok, Err, if◌then◌else◌}
 use Rattle.svnpath.specs.{Paths.PathValue, Texts.joined}
-use Rattle.refusals.specs.{declared.Refusal.Refusal, declared.fault.NotDone.NotDone}
+use Rattle.refusals.specs.{declared.Refusal.Refusal, declared.fault.NotDoneAt.NotDoneAt}
 use Rattle.refusals.specs.declared.Refusal.TheVariants as refusals
 use Rattle.repo_api.specs.{States.{IsBeginning, IsBegun, IsEdited, RepoState, TxnState}, declared.change.Source.Source, declared.entry.NodeKind.NodeKind}
 use Rattle.repo_api.specs.declared.edit.EditOp.{EditOp}
@@ -14,10 +14,10 @@ use Rattle.wire_edits.specs.declared.editing.EditorCommand.TheVariants.{ChangeDi
 use Rattle.wire_edits.specs.declared.editing.EditorCommand.TheVariants.{TextDeltaEnd, CloseDirectory, CloseFile, CloseEdit, AbortEdit}
 use Rattle.wire_edits.specs.{declared.editing.AddedEntry.AddedEntry, declared.editing.PropertyChange.PropertyChange}
 use Rattle.edit_rules.specs.Tokens.{Tokens, with_token, without_token, with_change, opened_under, path_of, copies_under, closed_beneath, others_closed_beneath}
-use Rattle.edit_rules.specs.{Tokens.has_unfinished, Edits.{EditState, standing, file_text}, Refusing.{source_of, edit_refusal}}
+use Rattle.edit_rules.specs.{Tokens.has_unfinished, Edits.{EditState, standing, file_text}, Refused.refused_at, Refusing.{source_of, edit_refusal}}
 use Rattle.edit_rules.specs.{declared.opened.OpenedDirectory.OpenedDirectory, declared.opened.Opened.Opened}
 use Rattle.edit_rules.specs.{declared.opened.Opened.TheVariants.{Directory, File}, declared.opened.DeltaState.TheVariants.{NotBegun, Reading, Ended}}
-use Rattle.refusals.specs.declared.fault.NotDone.TheVariants as faults
+use Rattle.refusals.specs.declared.fault.NotDoneAt.TheVariants as faults
 
 -- an edit that is refused: its transaction is dropped
 abbrev pub given_up : EditState → EditState
@@ -164,11 +164,12 @@ Applies c old (CloseFile token checksum) new = Closes old token new
 Applies c old CloseEdit new = ⊥
 Applies c old AbortEdit new = ⊥
 
--- why nothing was made of a command: it is refused, and the edit is given up, or memory was, and
--- nothing has changed
-abbrev pub NotApplied : RepoState → EditState → EditorCommand → NotDone → EditState → Type 0
-NotApplied c old command (faults.Refused r) new =
-    (edit_refusal c old command ≡ Some r) × (new ≡ given_up old)
+-- why nothing was made of a command: it is refused, at a path if it is of one, and the edit is given
+-- up, or memory was, and nothing has changed
+abbrev pub NotApplied : RepoState → EditState → EditorCommand → NotDoneAt → EditState → Type 0
+NotApplied c old command (faults.Refused r path) new =
+    (edit_refusal c old command ≡ Some r) × (path ≡ refused_at old command r)
+    × (new ≡ given_up old)
 NotApplied c old command faults.NoMemory new = new ≡ old
 
 -- ---- the end of an edit

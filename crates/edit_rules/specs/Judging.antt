@@ -1,11 +1,12 @@
 -- What the judging of a command answers.
-use Rattle.std.specs.Prelude.{◌≡◌, Bool, Option, Some, None, OnErr, OnOk, Result, Ok, Err}
+use Rattle.std.specs.Prelude.{◌≡◌, Bool, true, false, IsTrue, Option, Some, None, OnErr, OnOk, Result, Ok, Err}
 use Rattle.svnpath.specs.{Paths.PathValue, declared.fault.PathFault.PathFault}
 use Rattle.refusals.specs.{declared.Refusal.Refusal, Faults.IfRefusedBy, declared.fault.NotDone.NotDone}
 use Rattle.refusals.specs.declared.fault.NotDone.TheVariants as faults
 use Rattle.repo_api.specs.{States.RepoState, declared.change.Source.Source}
 use Rattle.wire_edits.specs.{declared.editing.AddedEntry.AddedEntry, declared.editing.EditorCommand.EditorCommand}
-use Rattle.edit_rules.specs.{Edits.EditState, Refusing.{add_at_refusal, command_refusal, path_fault}, Editor.{AddsAt, Applies, given_up}}
+use Rattle.wire_edits.specs.declared.editing.EditorCommand.TheVariants.{TextDeltaChunk}
+use Rattle.edit_rules.specs.{Edits.EditState, Refusing.{add_at_refusal, command_refusal, path_fault}, Editor.{AddsAt, Applies, given_up}, Refused.refused_at}
 
 -- it goes on where nothing is refused, and ends by what is
 abbrev pub Judges : {T : Type 0} → Result T NotDone → Option Refusal → Type 0
@@ -22,6 +23,18 @@ Names (Err fault) wanted = IfRefusedBy fault (λ r. path_fault wanted ≡ Some r
 abbrev pub Leaves : EditState → NotDone → EditState → Type 0
 Leaves old (faults.Refused r) new = given_up new ≡ given_up old
 Leaves old faults.NoMemory new = new ≡ old
+
+-- whether a command that is refused leaves the edit as it was: each does, but for bytes of a text
+abbrev pub is_refused_whole : EditorCommand → Bool
+is_refused_whole (TextDeltaChunk token bytes) = false
+is_refused_whole _ = true
+
+-- so it does, and the path at which it is refused stays
+abbrev pub KeepsPath : EditState → EditorCommand → NotDone → EditState → Type 0
+KeepsPath old command (faults.Refused r) new =
+    (refused_at new command r ≡ refused_at old command r)
+    × (IsTrue (is_refused_whole command) → new ≡ old)
+KeepsPath old command faults.NoMemory new = Unit {0}
 
 -- it is done where nothing is refused; where something is, or memory runs out, the edit stays as it
 -- was

@@ -1,6 +1,7 @@
 pub mod Tokens
 pub mod Edits
 pub mod Refusing
+pub mod Refused
 pub mod Editor
 pub mod Judging
 pub mod Soundness

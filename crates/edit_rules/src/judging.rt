@@ -141,7 +141,7 @@ pub fn source_named(
 }
 
 /// Reads the path of a copy's source.
-fn source_path(alloc: Global, name: &str, text: &[u8]) -> Result<Path, PathFault>
+pub(crate) fn source_path(alloc: Global, name: &str, text: &[u8]) -> Result<Path, PathFault>
     ensures { AnswersPath result (source_path name.now text.now) }
 {
     if text.starts_with(b"/".as_slice()) {

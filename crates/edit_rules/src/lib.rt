@@ -8,6 +8,7 @@ mod judging;
 mod laws;
 mod open_tokens;
 mod opened;
+mod refused;
 mod texts;
 mod tokens;
 
@@ -19,6 +20,7 @@ pub use judging::{
 pub use laws::{edits_are_right, edits_keep_trees};
 pub use open_tokens::OpenTokens;
 pub use opened::{DeltaState, Opened, OpenedDirectory};
+pub use refused::{added_at, path_refused};
 pub use texts::text_edit_under;
 pub use tokens::{
     close_beneath, close_others_beneath, copies_under, directory_under, feed_under, has_unfinished,

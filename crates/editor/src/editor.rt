@@ -1,18 +1,20 @@
 //! The editor of a commit.
-ghost use Rattle.std.specs.{Prelude.{◌≡◌, Ok, Err, None, OnOk, IfOk, IfErr, MatchResult, string_bytes}, Arc.arc_value};
+ghost use Rattle.std.specs.{Prelude.{◌≡◌, Ok, Err, None, OnErr, OnOk, IfOk, IfErr, IsTrue, MatchResult, option_map, string_bytes}, Arc.arc_value};
 ghost use Rattle.edit_rules.specs.{Editor.{Applies, finished, given_up, NotApplied, RestsOn}, Edits.{base_in, created, file_text, new_edit, standing}};
-ghost use Rattle.edit_rules.specs.{Judging.{Judges, Leaves}, Refusing.{before_root, edit_refusal}, Soundness.{IsSoundEdit, IsSoundOn}};
+ghost use Rattle.edit_rules.specs.{Judging.{is_refused_whole, Judges, KeepsPath, Leaves}, Refused.{added_at, refused_at}};
+ghost use Rattle.edit_rules.specs.{Refusing.{before_root, edit_refusal, open_under}, Soundness.{IsSoundEdit, IsSoundOn}, Tokens.path_of};
 
 use crate::open_txn::OpenTxn;
 use crate::room::EDIT_LIMIT;
-use edit_rules::{OpenTokens, has_unfinished, judge};
-use refusals::{NotDone, Refusal};
+use byte_string::ByteString;
+use edit_rules::{OpenTokens, added_at, has_unfinished, judge, path_refused};
+use refusals::{NotDone, NotDoneAt, Refusal};
 use repo_api::{FileText, NodeKind, Repository};
 use std::alloc::{AllocError, Global};
 use std::marker::Model;
 use std::sync::Arc;
 use svnpath::Path;
-use wire_edits::EditorCommand;
+use wire_edits::{AddedEntry, EditorCommand};
 
 /// An edit on its way to a commit.
 pub struct CommitEditor<R: Repository> {
@@ -80,7 +82,7 @@ impl<R: Repository> CommitEditor<R> {
     /// Carries a command out. After one that is refused the edit is given up, and each further one is answered
     /// by `EditAborted`. The repository's revisions begin with those that the edit has seen, and the edit's
     /// transaction has a tree in which stands what is open. Memory is refused to an edit that takes some 4 GiB.
-    pub fn apply(&mut self, command: &EditorCommand, repository: &R) -> Result<(), NotDone>
+    pub fn apply(&mut self, command: &EditorCommand, repository: &R) -> Result<(), NotDoneAt>
         requires rests { RestsOn self.old (R.content repository.now) }
         requires sound { IsSoundEdit self.old }
         ensures ok { OnOk result ((edit_refusal (R.content repository.now) self.old command.now ≡ None)
@@ -91,20 +93,63 @@ impl<R: Repository> CommitEditor<R> {
         self.take_room(command)?;
         match self.carry_out(command, repository) {
             Ok(()) => Ok(()),
-            Err(NotDone::Refused(refusal)) => Err(self.give_up(refusal)),
-            Err(NotDone::NoMemory) => Err(NotDone::NoMemory),
+            Err(NotDone::Refused(refusal)) => match self.refused_at(command, refusal) {
+                Ok(path) => Err(self.give_up(refusal, path)),
+                Err(_) => Err(NotDoneAt::NoMemory),
+            },
+            Err(NotDone::NoMemory) => Err(NotDoneAt::NoMemory),
+        }
+    }
+
+    /// Gives the path at which a command is refused, if it is one of a path.
+    fn refused_at(
+        &self,
+        command: &EditorCommand,
+        refusal: Refusal,
+    ) -> Result<Option<Path>, AllocError>
+        ensures path { IfOk result (λ path. path ≡ refused_at self.now command.now refusal) }
+        ensures whole { OnErr result (IsTrue (is_refused_whole command.now)) }
+    {
+        match command {
+            EditorCommand::OpenRoot(_, _) => Ok(Some(self.path.clone()?)),
+            EditorCommand::DeleteEntry(entry) => path_refused(self.alloc, &self.path, &entry.path),
+            EditorCommand::AddDirectory(entry) => self.added_at(entry, refusal),
+            EditorCommand::AddFile(entry) => self.added_at(entry, refusal),
+            EditorCommand::OpenDirectory(entry) => {
+                path_refused(self.alloc, &self.path, &entry.path)
+            }
+            EditorCommand::OpenFile(entry) => path_refused(self.alloc, &self.path, &entry.path),
+            EditorCommand::ChangeDirectoryProperty(change) => self.path_under(&change.token),
+            _ => Ok(None),
+        }
+    }
+
+    /// Gives the path at which what is added is refused.
+    fn added_at(&self, entry: &AddedEntry, refusal: Refusal) -> Result<Option<Path>, AllocError>
+        ensures { IfOk result (λ path. path ≡ added_at self.now entry.now refusal) }
+    {
+        added_at(self.alloc, &self.path, self.name.as_str(), entry, refusal)
+    }
+
+    /// Gives the path of what is open under the token, if something is.
+    fn path_under(&self, token: &ByteString) -> Result<Option<Path>, AllocError>
+        ensures { IfOk result (λ path. path ≡ option_map path_of (open_under self.now token.now)) }
+    {
+        match self.open_under(token) {
+            Some(opened) => Ok(Some(opened.path().clone()?)),
+            None => Ok(None),
         }
     }
 
     /// Gives the edit up.
-    fn give_up(&mut self, refusal: Refusal) -> NotDone
+    fn give_up(&mut self, refusal: Refusal, path: Option<Path>) -> NotDoneAt
         ensures state { self.new ≡ given_up self.old }
-        ensures fault { result ≡ NotDone.Refused refusal }
+        ensures fault { result ≡ NotDoneAt.Refused refusal path }
     {
         self.txn = None;
         self.tokens = OpenTokens::new(self.alloc);
         self.refused = true;
-        NotDone::Refused(refusal)
+        NotDoneAt::Refused(refusal, path)
     }
 
     /// Carries a command out, unless the edit was given up.
@@ -115,6 +160,7 @@ impl<R: Repository> CommitEditor<R> {
         ensures ok { OnOk result (Applies
             (R.content repository.now) self.old command.now self.new) }
         ensures err { IfErr result (λ fault. Leaves self.old fault self.new) }
+        ensures path { IfErr result (λ fault. KeepsPath self.old command.now fault self.new) }
     {
         if self.refused {
             return Err(NotDone::Refused(Refusal::EditAborted));

@@ -1,5 +1,5 @@
 //! Clients that are turned away.
-ghost use Rattle.std.specs.Prelude.{◌≡◌, ◌∷◌, [], IfOk};
+ghost use Rattle.std.specs.Prelude.{◌≡◌, ◌∷◌, [], IfOk, None};
 ghost use Rattle.wire_replies.specs.{Replies.print, declared.reply.Reply.TheVariants.Failure};
 
 use refusals::Refusal;
@@ -10,7 +10,7 @@ use wire_replies::{MemorySink, tell_refusal};
 
 /// Makes the bytes by which a client is told why it is not served.
 fn refusal_bytes(alloc: Global, refusal: Refusal) -> Result<Vec<u8>, AllocError>
-    ensures { IfOk result (λ bytes. bytes.items ≡ print (Failure refusal ∷ [])) }
+    ensures { IfOk result (λ bytes. bytes.items ≡ print (Failure refusal None ∷ [])) }
 {
     let mut output = MemorySink::new(alloc);
     tell_refusal(refusal, &mut output)?;

@@ -45,10 +45,8 @@ impl<F: Filed, S: Store> Archive<F> for FiledArchive<F, S> {
 
     ghost rests = { rests };
 
-    fn committed(&self, ask: CommitAsk, txn: F::Txn) -> Result<(F, Unsaved<F>), ChangeFault> {
-        let made = self.repository.committed(&ask, &txn);
-        drop((ask, txn));
-        match made {
+    fn committed(&self, ask: &CommitAsk, txn: &F::Txn) -> Result<(F, Unsaved<F>), ChangeFault> {
+        match self.repository.committed(ask, txn) {
             Ok((next, new)) => with_hold(next, ChangedFiles::Revision(new)),
             Err(fault) => Err(fault),
         }

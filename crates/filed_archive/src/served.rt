@@ -1,6 +1,6 @@
 //! A seat of a repository in files that threads share, as a session reaches it.
 use crate::sharing::{ServedRepo, ServedSeat};
-use access::{Changes, Committed, SplitAccess};
+use access::{Changes, Committed, NotCommitted, SplitAccess};
 use published::Naming;
 use repo_api::{ChangeFault, CommitAsk, LockAsk, PropertyAsk, UnlockAsk};
 use std::sync::{Arc, Wait};
@@ -43,7 +43,7 @@ impl<'r, F: Filed, S: Store, J: Naming, W: Wait> Changes<ServedSeat<F, J>>
         seat: &mut ServedSeat<F, J>,
         ask: CommitAsk,
         txn: F::Txn,
-    ) -> Result<Committed, ChangeFault> {
+    ) -> Result<Committed, NotCommitted> {
         self.repository.commit(self.rt, seat, ask, txn)
     }
 

@@ -115,6 +115,10 @@ impl Repository for FiledWorld {
         self.world.edit(txn, op)
     }
 
+    fn refused_at(&self, ask: &CommitAsk, txn: &WorldTxn) -> Result<Option<Path>, AllocError> {
+        self.world.refused_at(ask, txn)
+    }
+
     fn commit(&mut self, ask: CommitAsk, txn: WorldTxn) -> Result<u64, ChangeFault> {
         self.world.commit(ask, txn)
     }

@@ -5,5 +5,6 @@ pub mod Copied
 pub mod Rules
 pub mod MapEdits
 pub mod Keys
+pub mod Finding
 pub mod Landed
 pub mod Merged

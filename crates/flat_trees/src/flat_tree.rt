@@ -1,9 +1,9 @@
 //! A tree as one ordered map.
 ghost use Rattle.std.specs.{Prelude.{◌≡◌, IfOk, OnOk, map, option_copied}, FinMap.{get, empty, keys}, List.list_any, Map.Iter.deref};
-ghost use Rattle.repo_api.specs.{Edits.{added, begun, copied, deleted, revised, with_text}, Kinds.has_deeper, MergedMaps.{has_conflict, merged_map}};
-ghost use Rattle.repo_api.specs.{Opening.opening_tree, Readings.names_in, States.tree_of};
+ghost use Rattle.repo_api.specs.{Edits.{added, begun, copied, deleted, revised, with_text}, Kinds.has_deeper};
+ghost use Rattle.repo_api.specs.{MergedMaps.{has_conflict, IsConflict, merged_map}, Opening.opening_tree, Readings.names_in, States.tree_of};
 ghost use Rattle.revision_data.specs.Found.{found};
-ghost use Rattle.flat_trees.specs.{EntryChanges.with_change, Changing.{Applies, AreOf, IsMapOf}, Merging.{conflict_at, merged_at, put_over}};
+ghost use Rattle.flat_trees.specs.{EntryChanges.with_change, Changing.{Applies, AreOf, IsMapOf}, Merging.{conflict_at, Finds, merged_at, put_over}};
 
 use crate::copies::{cut_subtree, put_copies};
 use crate::entries::{is_deeper, new_entry, opening_root, put_properties, put_text};
@@ -183,6 +183,46 @@ impl FlatTree {
             .any(|path| self.conflicts_at(path, base, youngest))
     }
 
+    /// Finds a path of the base or of this tree, the transaction's, that is in conflict, if there is one.
+    pub fn conflict(&self, base: &FlatTree, youngest: &FlatTree) -> Result<Option<Path>, AllocError>
+        ensures { IfOk result (IsConflict base.now self.now youngest.now) }
+    {
+        let of_base = self.conflict_among(base, base, youngest)?;
+        match of_base {
+            Some(path) => Ok(Some(path)),
+            None => self.conflict_among(self, base, youngest),
+        }
+    }
+
+    /// Finds one of the paths that is in conflict, if there is one.
+    fn conflict_among(
+        &self,
+        paths: &FlatTree,
+        base: &FlatTree,
+        youngest: &FlatTree,
+    ) -> Result<Option<Path>, AllocError>
+        ensures { IfOk result (Finds (conflict_at base.now self.now youngest.now)
+            (keys paths.now)) }
+    {
+        copy_of(self.found_among(paths, base, youngest))
+    }
+
+    /// Finds one of the paths that is in conflict, if there is one, where it is.
+    fn found_among<'a>(
+        &self,
+        paths: &'a FlatTree,
+        base: &FlatTree,
+        youngest: &FlatTree,
+    ) -> Option<&'a Path>
+        ensures { Finds (conflict_at base.now self.now youngest.now) (keys paths.now)
+            (option_copied result) }
+    {
+        paths
+            .entries
+            .keys()
+            .find(|path| self.conflicts_at(path, base, youngest))
+    }
+
     /// Says whether the path is in conflict.
     fn conflicts_at(&self, path: &Path, base: &FlatTree, youngest: &FlatTree) -> bool
         ensures { result ≡ conflict_at base.now self.now youngest.now path.now }
@@ -244,5 +284,15 @@ impl FlatTree {
             self.get(path),
             youngest.get(path),
         )
+    }
+}
+
+/// Copies a path, if there is one.
+fn copy_of(path: Option<&Path>) -> Result<Option<Path>, AllocError>
+    ensures { IfOk result (λ copy. copy ≡ option_copied path.entry) }
+{
+    match path {
+        None => Ok(None),
+        Some(path) => Ok(Some(path.clone()?)),
     }
 }

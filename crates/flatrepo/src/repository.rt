@@ -1,8 +1,9 @@
 //! The repository and its transactions.
 ghost use Rattle.std.specs.Prelude.{◌≡◌, ◌≤◌, ◌<◌, List, ℕ, length, IfOk, OnOk, OnErr};
 ghost use Rattle.dates.specs.{Dates.IsDateText, declared.TheConstants.LAST_MOMENT};
-ghost use Rattle.repo_api.specs.{Accepted.IsJudged, Commits.{commit_refusal, committed, revision_properties}, Kinds.{created_at, kind_at}};
-ghost use Rattle.repo_api.specs.{Locking.{check_refusal, with_lock}, MergedMaps.{has_conflict, merged_map}, Opening.new_repository};
+ghost use Rattle.repo_api.specs.{Accepted.IsJudged, Commits.{commit_refusal, committed, IsConflictOf, IsRefusedAt, revision_properties}};
+ghost use Rattle.repo_api.specs.{Kinds.{created_at, kind_at}, Locking.{check_refusal, refusing_path, with_lock}, MergedMaps.{has_conflict, merged_map}};
+ghost use Rattle.repo_api.specs.Opening.{new_repository};
 ghost use Rattle.repo_api.specs.{RevisionProperties.{property_refusal, with_changed_property}, RightEdits.IsRightEdit};
 ghost use Rattle.repo_api.specs.States.{EditsTxn, IsBeginning, Notes, tree_at, tree_of, trees_in, youngest};
 ghost use Rattle.flatrepo.specs.{Contents.{flat_state, HasRevision, revisions_of}, Edits.EditsTree, Whole.{state_of, repo_content, txn_state_of}};
@@ -155,6 +156,10 @@ impl Repository for FlatRepo {
 
     fn edit(&self, txn: &mut FlatTxn, op: EditOp) -> Result<(), AllocError> {
         edit_txn(self.alloc, &self.content, txn, &op)
+    }
+
+    fn refused_at(&self, ask: &CommitAsk, txn: &FlatTxn) -> Result<Option<Path>, AllocError> {
+        refused_at(self.alloc, &self.content, &self.locks, ask, txn)
     }
 
     fn commit(&mut self, ask: CommitAsk, txn: FlatTxn) -> Result<u64, ChangeFault> {
@@ -314,6 +319,48 @@ fn check_locks(
 {
     let tokens = ask.tokens.as_slice();
     locks.check(alloc, changes.as_map(), ask.author.as_ref(), tokens)
+}
+
+/// Finds a path at which a commit is refused, if it is at one: a path in conflict, or where none is, that of the first
+/// lock in its way that refuses.
+fn refused_at(
+    alloc: Global,
+    content: &FlatContent,
+    locks: &Locks,
+    ask: &CommitAsk,
+    txn: &FlatTxn,
+) -> Result<Option<Path>, AllocError>
+    ensures { IfOk result (IsRefusedAt (state_of content.now locks.now) ask.now
+        (txn_state_of txn.now)) }
+{
+    let conflict = conflict_in(content, txn)?;
+    match conflict {
+        Some(path) => Ok(Some(path)),
+        None => refusing_path(alloc, locks, &txn.changes, ask),
+    }
+}
+
+/// Finds a path at which others have changed what the transaction has changed, if there is one.
+fn conflict_in(content: &FlatContent, txn: &FlatTxn) -> Result<Option<Path>, AllocError>
+    ensures { IfOk result (IsConflictOf (flat_state content.now) (txn_state_of txn.now)) }
+{
+    let base = content.tree(txn.base);
+    let newest = content.tree(content.youngest());
+    txn.tree.conflict(base, newest)
+}
+
+/// Finds the path of the lock that refuses a commit of the changes, if one does.
+fn refusing_path(
+    alloc: Global,
+    locks: &Locks,
+    changes: &TxnChanges,
+    ask: &CommitAsk,
+) -> Result<Option<Path>, AllocError>
+    ensures { IfOk result (λ path. path ≡ refusing_path locks.now changes.now ask.now.author
+        ask.now.tokens) }
+{
+    let tokens = ask.tokens.as_slice();
+    locks.refusing_path(alloc, changes.as_map(), ask.author.as_ref(), tokens)
 }
 
 /// Makes the tree of the revision that a commit of this tree, from this base, adds.

@@ -1,6 +1,7 @@
 -- What a commit makes, and why it was not made.
-use Rattle.std.specs.Prelude.{◌≡◌, ℕ, Bool, true, false, length, Result, Ok, Err}
-use Rattle.repo_api.specs.{MergedMaps.{has_conflict, merged_map}, States.{tree_at, TreeMap, youngest}}
+use Rattle.std.specs.Prelude.{◌≡◌, ℕ, Bool, true, false, length, Option, Result, Ok, Err}
+use Rattle.svnpath.specs.Paths.{PathValue}
+use Rattle.repo_api.specs.{MergedMaps.{has_conflict, IsConflict, merged_map}, States.{tree_at, TreeMap, youngest}}
 use Rattle.treemerge.specs.declared.merging.MergeFault.{MergeFault}
 use Rattle.treemerge.specs.declared.merging.MergeFault.TheVariants as merges
 use Rattle.txntree.specs.declared.tree.TxnTree.{TxnTree}
@@ -19,6 +20,12 @@ abbrev pub conflicts : Held → ℕ → TreeMap → Bool
 conflicts h base txn =
     has_conflict (tree_at (held_state h) base) txn
     (tree_at (held_state h) (youngest (held_state h)))
+
+-- a path at which they have, or none where they have not
+abbrev pub IsConflictIn : Held → ℕ → TreeMap → Option PathValue → Type 0
+IsConflictIn h base txn o =
+    IsConflict (tree_at (held_state h) base) txn
+    (tree_at (held_state h) (youngest (held_state h))) o
 
 -- why a commit was not made, by why the merge was not
 abbrev pub commit_fault : MergeFault → CommitFault

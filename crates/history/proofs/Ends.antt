@@ -20,7 +20,7 @@ same_place_is a b same =
 same_place_refl : (a : Place) → same_place a a ≡ true
 same_place_refl a = and_from (a.revision == a.revision) (same_path a.path a.path) (eq-eqb a.revision a.revision refl) (same_path_refl a.path)
 
-is_same : (a b : Place) → a ≡ b → same_place a b ≡ true
+pub is_same : (a b : Place) → a ≡ b → same_place a b ≡ true
 is_same a b same = subst (λ c. same_place a c ≡ true) same (same_place_refl a)
 
 turned : (a b : Place) → same_place a b ≡ same_place b a
@@ -33,12 +33,12 @@ turned a b = by (same_place a b) (same_place b a) refl refl
     by false true one other = absurd (false≢true (sym one ∙ is_same a b (sym (same_place_is b a other))))
 
 -- a walk goes on: the line of a place is that of the place before
-line_goes_on : (h : History) (p next : Place) → trace h false p ≡ p ∷ traced h false (Some next) → line_start h p ≡ line_start h next
+pub line_goes_on : (h : History) (p next : Place) → trace h false p ≡ p ∷ traced h false (Some next) → line_start h p ≡ line_start h next
 line_goes_on h p next is =
     ap (last_place p) is ∙ ap (last_place p) (trace_is h false next) ∙ sym (ap (last_place next) (trace_is h false next))
 
 -- quiet revisions are passed over
-line_since : (h : History) (p : PathValue) (k n : ℕ) → k ≤ n → IsQuietSince h p k n → line_start h (place_at n p) ≡ line_start h (place_at k p)
+pub line_since : (h : History) (p : PathValue) (k n : ℕ) → k ≤ n → IsQuietSince h p k n → line_start h (place_at n p) ≡ line_start h (place_at k p)
 line_since h p k zero within quiet =
     let same : zero ≡ k = omega (arith, within) in
     ap (λ m. line_start h (place_at m p)) same

@@ -13,3 +13,4 @@ pub mod Along
 pub mod Together
 pub mod Naming
 pub mod Ends
+pub mod AllLines

@@ -11,7 +11,7 @@ use Rattle.traces.specs.{declared.place.Place.Place, Touching.{is_touched, touch
 use Rattle.history.specs.{Logs.{listed, place_at}, Locations.path_in, Gathered.GoesOn, Unconcerned.{concerns, IsUnconcerned}}
 use Rattle.history.proofs.Steps.{trace_is, listed_by, not_equal, path_past}
 
-reversed : {X : Type 0} (P : X → Type 0) (xs : List X) → All P xs → All P (reverse xs)
+pub reversed : {X : Type 0} (P : X → Type 0) (xs : List X) → All P xs → All P (reverse xs)
 reversed P [] all = All-nil P
 reversed P (x ∷ xs) all =
     All-same P (reverse (x ∷ xs)) (reverse xs ++ x ∷ []) (reverse-append (x ∷ []) xs)
@@ -95,7 +95,7 @@ listed_unconcerned h strict low p (suc n) some is =
     fewer = omega arith
 
 -- a revision none of whose changes concerns the path
-each_fails : {X : Type 0} (test : X → Bool) (xs : List X) → list_any test xs ≡ false → All (λ x. test x ≡ false) xs
+pub each_fails : {X : Type 0} (test : X → Bool) (xs : List X) → list_any test xs ≡ false → All (λ x. test x ≡ false) xs
 each_fails test [] none = All-nil (λ x. test x ≡ false)
 each_fails test (x ∷ xs) none = All-cons (λ y. test y ≡ false) x xs (first (test x) (list_any test xs) none) (each_fails test xs (second (test x) (list_any test xs) none))
   where

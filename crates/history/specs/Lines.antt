@@ -1,8 +1,8 @@
 -- Lines of history: what was added once, followed through changes and copies.
-use Rattle.std.specs.Prelude.{◌≡◌, ◌==◌, ◌⊎◌, Bool, false, ◌&&◌, List, [], ◌∷◌}
-use Rattle.svnpath.specs.Paths.{same_path}
-use Rattle.repo_api.specs.Histories.{History}
-use Rattle.traces.specs.{Traces.trace, declared.place.Place.Place}
+use Rattle.std.specs.Prelude.{◌≡◌, ◌==◌, ◌⊎◌, Bool, false, not, ◌&&◌, List, [], ◌∷◌, ◌++◌}
+use Rattle.svnpath.specs.Paths.{is_at_or_under, PathValue, same_path}
+use Rattle.repo_api.specs.Histories.{Changed, History}
+use Rattle.traces.specs.{Traces.{makes, trace}, declared.place.Place.Place}
 
 -- two places are one
 abbrev pub same_place : Place → Place → Bool
@@ -24,3 +24,19 @@ is_one_line h a b = same_place (line_start h a) (line_start h b)
 -- the first two places are the other two, in whichever order
 abbrev pub AreTheseTwo : Place → Place → Place → Place → Type 0
 AreTheseTwo a b c d = ((a ≡ c) × (b ≡ d)) ⊎ ((a ≡ d) × (b ≡ c))
+
+-- ---- what is beneath places
+
+-- the place that these names lead down to
+abbrev pub place_beneath : Place → PathValue → Place
+place_beneath at rest = record { path = at.path ++ rest; revision = at.revision }
+
+-- what is at two places is of one line, and so is what is at each path beneath both
+abbrev pub AreOneLineBeneath : History → Place → Place → Type 0
+AreOneLineBeneath h a b =
+    (rest : PathValue) → line_start h (place_beneath a rest) ≡ line_start h (place_beneath b rest)
+
+-- the change added or replaced what is beneath the path, and not what is at it or above it
+abbrev pub makes_beneath : PathValue → Changed → Bool
+makes_beneath p e =
+    makes e.1.action && is_at_or_under e.0 p && not (is_at_or_under p e.0)

@@ -1,6 +1,7 @@
 //! The history of places, read off the lists of changes: logs, where a place was or went, and lines of history.
 #![tactic(auto)]
 
+mod beneath;
 mod coming;
 mod dates;
 mod gathering;
@@ -15,6 +16,7 @@ mod meeting;
 mod walk;
 mod walks;
 
+pub use beneath::are_one_line_beneath;
 pub use dates::dated_rev;
 pub use kinds::kind_shown;
 pub use laws::{

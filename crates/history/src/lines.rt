@@ -2,7 +2,7 @@
 ghost use Rattle.std.specs.Prelude.{◌≡◌, ◌≤◌, false, IfOk};
 ghost use Rattle.repo_api.specs.Histories.{history_of};
 ghost use Rattle.traces.specs.Traces.{traced, IsBelow};
-ghost use Rattle.history.specs.Lines.{AreTheseTwo, is_one_line, last_place, line_start, same_place};
+ghost use Rattle.history.specs.Lines.{AreOneLineBeneath, AreTheseTwo, is_one_line, last_place, line_start, same_place};
 
 use crate::walk::{settled_place, step_back};
 use repo_api::Repository;
@@ -35,9 +35,14 @@ pub fn is_one_line<R: Repository>(
 }
 
 /// Copies a place, in the revision that it has settled in.
-fn settled_copy<R: Repository>(repository: &R, place: &Place) -> Result<Place, AllocError>
-    ensures { let h = history_of (R.content repository.now) in
+pub(crate) fn settled_copy<R: Repository>(
+    repository: &R,
+    place: &Place,
+) -> Result<Place, AllocError>
+    ensures line { let h = history_of (R.content repository.now) in
         IfOk result (λ settled. line_start h settled ≡ line_start h place.now) }
+    ensures beneath { let h = history_of (R.content repository.now) in
+        IfOk result (AreOneLineBeneath h place.now) }
 {
     let copy = Place {
         path: place.path.clone()?,
@@ -54,7 +59,7 @@ pub(crate) fn is_same_place(place: &Place, other: &Place) -> bool
 }
 
 /// Exchanges two places where the second is in an older revision than the first.
-fn put_in_order(earlier: &mut Place, later: &mut Place)
+pub(crate) fn put_in_order(earlier: &mut Place, later: &mut Place)
     ensures order { earlier.new.revision ≤ later.new.revision }
     ensures two { AreTheseTwo earlier.new later.new earlier.old later.old }
 {

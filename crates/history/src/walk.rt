@@ -2,7 +2,7 @@
 ghost use Rattle.std.specs.{Prelude.{◌≡◌, ◌≤◌, ◌∷◌, ℕ, Bool, false, IfOk}, List.list_any};
 ghost use Rattle.repo_api.specs.Histories.{History, history_of};
 ghost use Rattle.traces.specs.Traces.{trace_below, trace, traced, IsBelow};
-ghost use Rattle.history.specs.{Lines.line_start, Logs.{IsNext, listed}, Unconcerned.{concerns, IsUnconcerned}};
+ghost use Rattle.history.specs.{Lines.{AreOneLineBeneath, line_start}, Logs.{IsNext, listed}, Unconcerned.{concerns, IsUnconcerned}};
 
 use crate::listed::Listed;
 use repo_api::{Action, Change, Repository};
@@ -34,7 +34,7 @@ fn only_below(place: Option<Place>, revision: u64) -> Option<Place>
 
 /// Asks the repository for the names of what exists in revision 0, which are none. One that is given up, as its client has
 /// gone, answers as where memory runs out: so a walk ends that finds nothing for long.
-fn ask_on<R: Repository>(alloc: Global, repository: &R) -> Result<(), AllocError> {
+pub(crate) fn ask_on<R: Repository>(alloc: Global, repository: &R) -> Result<(), AllocError> {
     drop(repository.names(0, &Path::root(alloc))?);
     Ok(())
 }
@@ -56,13 +56,14 @@ pub fn step_back<R: Repository>(
 }
 
 /// Gives the place in the revision that it has settled in: from there to the place nothing is listed, and its line is the
-/// same.
+/// same, as are those of what is beneath it.
 pub(crate) fn settled_place<R: Repository>(repository: &R, at: Place) -> Place
     ensures within { result.revision ≤ at.revision }
     ensures listed { let h = history_of (R.content repository.now) in (strict : Bool) (low : ℕ)
         → listed h low (trace h strict at) ≡ listed h low (trace h strict result) }
     ensures line { let h = history_of (R.content repository.now) in
         line_start h at ≡ line_start h result }
+    ensures beneath { AreOneLineBeneath (history_of (R.content repository.now)) at result }
 {
     if at.path.is_root() {
         return at;

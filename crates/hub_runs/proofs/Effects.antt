@@ -208,7 +208,7 @@ quiet_skipping env client (Some false) = (refl, refl, refl)
 quiet_drawn : (env : Env) (client : Client) (d : Drawn) → Quiet env (drawn_answer env client d)
 quiet_drawn env client (GoesOn report) = (refl, refl, refl)
 quiet_drawn env client GivenUp = (refl, refl, refl)
-quiet_drawn env client (Draws r) = (refl, refl, refl)
+quiet_drawn env client (Draws r path) = (refl, refl, refl)
 quiet_drawn env client (Drives drive) = (refl, refl, refl)
 quiet_drawn env client Malformed = (refl, refl, refl)
 
@@ -509,7 +509,7 @@ does_commit : {may : Bool} (halted : Bool) (env : Env) (c : RepoState) (edit : M
     → finished edit.editor ≡ Ok t → IsDateText env.moment date → (let ask = commit_ask edit.client edit.asked date in
     commit_refusal c ask t ≡ r → CommitStep halted env c edit.client ask t r a → Does (IsOfEdit env edit) may halted env c a)
 does_commit true env c edit t date r a txn dated judged is = quiet a _ is (refl, refl, refl)
-does_commit false env c edit t date (Some r) a txn dated judged is = quiet a _ is (refl, refl, refl)
+does_commit false env c edit t date (Some r) a txn dated judged (path, at, is) = quiet a _ is (refl, refl, refl)
 does_commit false env c edit t date None a txn dated judged (v, step) = does_committed env c edit t date v a txn dated judged step
 
 does_close : {may : Bool} (halted : Bool) (env : Env) (c : RepoState) (edit : MachineEdit) (r : Result TxnState Refusal) (a : Answer)

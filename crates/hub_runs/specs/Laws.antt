@@ -27,7 +27,7 @@ new_hub settings uuid date = record {
 
 -- a failure: a refusal, or one that has its links from a client
 abbrev pub IsFailure : Reply → Type 0
-IsFailure (Failure r) = Unit {0}
+IsFailure (Failure r path) = Unit {0}
 IsFailure (Failures links) = Unit {0}
 IsFailure _ = ⊥
 

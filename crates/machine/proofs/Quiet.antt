@@ -86,7 +86,7 @@ ending s env told = record { kept = tt; new = tt }
 quiet_drawn : (s : Settings) (env : Env) (client : Client) (d : Drawn) → IsQuiet s (drawn_answer env client d)
 quiet_drawn s env client (GoesOn report) = record { kept = tt; new = tt }
 quiet_drawn s env client GivenUp = plain s env client _
-quiet_drawn s env client (Fails r) = plain s env client _
+quiet_drawn s env client (Fails r path) = plain s env client _
 quiet_drawn s env client (Drives drive) = record { kept = tt; new = tt }
 quiet_drawn s env client Malformed = ending s env _
 

@@ -124,7 +124,7 @@ rests_committed env c client ask t (Unknown x) a is = rests_is c a _ is.1 tt
 rests_commit : (halted : Bool) (env : Env) (c : RepoState) (client : Client) (ask : CommitAsk) (t : TxnState)
     (r : Option Refusal) (a : Answer) → CommitStep halted env c client ask t r a → EditRests a.phase c
 rests_commit true env c client ask t r a is = rests_is c a _ is tt
-rests_commit false env c client ask t (Some r) a is = rests_is c a _ is tt
+rests_commit false env c client ask t (Some r) a (path, at, is) = rests_is c a _ is tt
 rests_commit false env c client ask t None a (v, step) = rests_committed env c client ask t v a step
 
 rests_close : (halted : Bool) (env : Env) (c : RepoState) (client : Client) (asked : CommitParameters) (r : Result TxnState Refusal) (a : Answer)

@@ -142,7 +142,7 @@ module _ (begins : (path : PathValue) (name : List ℕ) (is_of_today : Bool) →
       → AreSound c.revisions → (r ≡ None → MeetWell (trees_in c.revisions) t.base (tree_of t.tree) (youngest c))
       → CommitStep halted env c client ask t r a → LeavesTrees c a
   leaves_commit true env c client ask t r a trees met is = leaves_is c a _ is (trees, tt, tt)
-  leaves_commit false env c client ask t (Some r) a trees met is = leaves_is c a _ is (trees, tt, tt)
+  leaves_commit false env c client ask t (Some r) a trees met (path, at, is) = leaves_is c a _ is (trees, tt, tt)
   leaves_commit false env c client ask t None a trees met (v, step) = leaves_committed env c client ask t v a trees (met refl) step
 
   -- the transaction that an edit ends with meets the youngest revision well

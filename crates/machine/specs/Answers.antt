@@ -1,9 +1,10 @@
 -- What an input does: the replies, where the session stands then, the words that are left, and what
 -- becomes of the repository.
-use Rattle.std.specs.Prelude.{◌≡◌, ℕ, Bool, true, false, ◌||◌, List, [], ◌∷◌, ◌++◌, Option, Some, None}
-use Rattle.refusals.specs.declared.Refusal.{Refusal}
+use Rattle.std.specs.Prelude.{◌≡◌, ℕ, Bool, true, false, ◌&&◌, ◌||◌, List, [], ◌∷◌, ◌++◌, Option, Some, None, if◌then◌else◌}
+use Rattle.svnpath.specs.Paths.{PathValue}
+use Rattle.refusals.specs.{Table.says_path, declared.Refusal.Refusal}
 use Rattle.refusals.specs.declared.Refusal.TheVariants as refusals
-use Rattle.repo_api.specs.{Accepted.{Accepted, changed_all}, States.RepoState}
+use Rattle.repo_api.specs.{Accepted.{Accepted, changed_all}, Accepted.Accepted.{Locks, Unlocks}, States.RepoState}
 use Rattle.wire_replies.specs.declared.reply.Reply.{Reply}
 use Rattle.wire_replies.specs.declared.reply.Reply.TheVariants as replies
 use Rattle.access.specs.Points.{HasRisen}
@@ -80,13 +81,35 @@ says env phase told = record { replies = told; phase = phase; env = env; effect 
 
 -- what is no command ends the session
 abbrev pub malformed : Env → Answer
-malformed env = says env Ended (replies.Failure refusals.MalformedData ∷ [])
+malformed env = says env Ended (replies.Failure refusals.MalformedData None ∷ [])
 
 -- a reply, after which commands are awaited
 abbrev pub serves : Env → Client → Reply → Answer
 serves env client reply = says env (Serving client) (reply ∷ [])
 
+-- ---- refusals
+
+-- the path that a client is told with a refusal: one of today alone, where the message says a path
+abbrev pub told_path : Bool → Refusal → Option PathValue → Option PathValue
+told_path is_of_today r None = None
+told_path is_of_today r (Some path) = if is_of_today && says_path r then Some path else None
+
+-- how a client is told of a refusal, of a command that is refused at this path, if it is one of a
+-- path
+abbrev pub failure_at : Bool → Refusal → Option PathValue → Reply
+failure_at is_of_today r path = replies.Failure r (told_path is_of_today r path)
+
+-- a command is refused at this path, and the next one is awaited
+abbrev pub refuses : Env → Client → Refusal → Option PathValue → Answer
+refuses env client r path = serves env client (failure_at client.is_of_today r path)
+
 -- ---- a change
+
+-- the path of the repository that a change is of, if it is of one
+abbrev pub path_of_change : Accepted → Option PathValue
+path_of_change (Locks ask) = Some ask.path
+path_of_change (Unlocks ask) = Some ask.path
+path_of_change _ = None
 
 -- a change that the rules accept, and that is told so where it is made, by what the store says
 abbrev pub change_answer : Env → Client → Accepted → List Reply → Verdict → Answer
@@ -97,13 +120,13 @@ change_answer env client e told Written = record {
   effect = record { changes = e ∷ []; store = Written };
 }
 change_answer env client e told NotWritten = record {
-  replies = replies.Failure refusals.StoreFailed ∷ [];
+  replies = replies.Failure refusals.StoreFailed None ∷ [];
   phase = Serving client;
   env = env;
   effect = record { changes = []; store = NotWritten };
 }
 change_answer env client e told (Unknown x) = record {
-  replies = replies.Failure refusals.StoreFailed ∷ [];
+  replies = replies.Failure refusals.StoreFailed None ∷ [];
   phase = Ended;
   env = env;
   effect = record { changes = []; store = Unknown x };
@@ -121,8 +144,8 @@ IsOfChange e (Unknown x) = x ≡ e
 abbrev pub ChangeStep : Bool → Env → Client → Option Refusal → Accepted → (Verdict → Answer)
     → Answer → Type 0
 ChangeStep true env client r e answer a =
-    a ≡ says env Ended (replies.Failure refusals.StoreFailed ∷ [])
-ChangeStep false env client (Some r) e answer a = a ≡ serves env client (replies.Failure r)
+    a ≡ says env Ended (replies.Failure refusals.StoreFailed None ∷ [])
+ChangeStep false env client (Some r) e answer a = a ≡ refuses env client r (path_of_change e)
 ChangeStep false env client None e answer a =
     (v : Verdict) × IsOfChange e v × (a ≡ answer v)
 

@@ -36,12 +36,12 @@ LockTokens = List (PathValue × List ℕ)
 abbrev pub at_revision : RepoState → Option ℕ → (ℕ → Reply) → Reply
 at_revision c None f = f (youngest c)
 at_revision c (Some n) f =
-    if nat_lt (youngest c) n then replies.Failure refusals.NoSuchRevision else f n
+    if nat_lt (youngest c) n then replies.Failure refusals.NoSuchRevision None else f n
 
 abbrev pub check_path_reply : RepoState → Option ℕ → Result PathValue PathFault → Reply
 check_path_reply c revision (Ok path) =
     at_revision c revision (λ n. replies.Kind (kind_at c n path))
-check_path_reply c revision (Err fault) = replies.Failure (path_refusal fault)
+check_path_reply c revision (Err fault) = replies.Failure (path_refusal fault) None
 
 abbrev pub rev_proplist_reply : RepoState → ℕ → Reply
 rev_proplist_reply c n = at_revision c (Some n) (λ m. replies.Properties (properties_at c m))
@@ -52,31 +52,35 @@ lock_at c path = option_to_list (option_map (λ l. (path, l)) (get c.locks path)
 
 abbrev pub locks_reply : (PathValue → LockList) → Result PathValue PathFault → Reply
 locks_reply found (Ok path) = replies.Locks (found path)
-locks_reply found (Err fault) = replies.Failure (path_refusal fault)
+locks_reply found (Err fault) = replies.Failure (path_refusal fault) None
 
--- what is told where the repository is read, as it is seen from the path of the client's URL
-abbrev pub read_replies : PathValue → ReadCommand → RepoState → List Reply
-read_replies base GetLatestRev c = replies.Revision (youngest c) ∷ []
-read_replies base (CheckPath path revision) c =
-    check_path_reply c revision (joined base path) ∷ []
-read_replies base (RevProplist n) c = rev_proplist_reply c n ∷ []
-read_replies base (GetLock path) c = locks_reply (lock_at c) (joined base path) ∷ []
-read_replies base (GetLocks path) c = locks_reply (at_or_under c.locks) (joined base path) ∷ []
-read_replies base (GetFile command) c =
-    file_replies c command (place_read c command.revision (joined base command.path))
-read_replies base (GetDir command) c =
-    directory_reply c command (place_read c command.revision (joined base command.path)) ∷ []
-read_replies base (Stat path revision) c =
-    stat_reply c (place_read c revision (joined base path)) ∷ []
-read_replies base (GetDatedRev date) c = dated_reply c date ∷ []
-read_replies base (RevProp n name) c = property_reply c n name ∷ []
-read_replies base (Log command) c = log_replies c command (all_joined base command.paths)
-read_replies base (GetLocations command) c =
-    locations_replies c command (joined base command.path)
+-- what a client is told where the repository is read, as it is seen from the path of its URL
+abbrev pub read_replies : Client → ReadCommand → RepoState → List Reply
+read_replies client GetLatestRev c = replies.Revision (youngest c) ∷ []
+read_replies client (CheckPath path revision) c =
+    check_path_reply c revision (joined client.path path) ∷ []
+read_replies client (RevProplist n) c = rev_proplist_reply c n ∷ []
+read_replies client (GetLock path) c = locks_reply (lock_at c) (joined client.path path) ∷ []
+read_replies client (GetLocks path) c =
+    locks_reply (at_or_under c.locks) (joined client.path path) ∷ []
+read_replies client (GetFile command) c =
+    file_replies client.is_of_today c command
+    (place_read c command.revision (joined client.path command.path))
+read_replies client (GetDir command) c =
+    directory_reply client.is_of_today c command
+    (place_read c command.revision (joined client.path command.path)) ∷ []
+read_replies client (Stat path revision) c =
+    stat_reply c (place_read c revision (joined client.path path)) ∷ []
+read_replies client (GetDatedRev date) c = dated_reply c date ∷ []
+read_replies client (RevProp n name) c = property_reply c n name ∷ []
+read_replies client (Log command) c =
+    log_replies client.is_of_today c command (all_joined client.path command.paths)
+read_replies client (GetLocations command) c =
+    locations_replies client.is_of_today c command (joined client.path command.path)
 
 -- it is told, and the next command is awaited
 abbrev pub read_answer : Env → Client → ReadCommand → RepoState → Answer
-read_answer env client command c = says env (Serving client) (read_replies client.path command c)
+read_answer env client command c = says env (Serving client) (read_replies client command c)
 
 -- ---- the beginning of a report
 
@@ -139,7 +143,7 @@ commit_begins s env client (Ok asked) =
       asked = asked;
       editor = new_edit client.path s.name client.is_of_today;
     })) (replies.Success ∷ [])
-commit_begins s env client (Err r) = serves env client (replies.Failure r)
+commit_begins s env client (Err r) = serves env client (replies.Failure r None)
 
 -- ---- locks
 
@@ -186,7 +190,7 @@ LockingStep env client command (Ok path) halted c a =
     × (let ask = lock_ask env client command path date in
     ChangeStep halted env client (lock_refusal c ask) (Locks ask) (lock_answer env client ask) a)
 LockingStep env client command (Err fault) halted c a =
-    a ≡ serves env client (replies.Failure (path_refusal fault))
+    a ≡ serves env client (replies.Failure (path_refusal fault) None)
 
 -- whether the comment of a lock is over the limit
 abbrev pub is_long_comment : Option (List ℕ) → Bool
@@ -197,7 +201,7 @@ is_long_comment (Some comment) = nat_lt COMMENT_LIMIT (length comment)
 abbrev pub LockStep : Bool → Env → Client → LockCommand → Result PathValue PathFault → Step
 LockStep false env client command path = LockingStep env client command path
 LockStep true env client command path =
-    Always (serves env client (replies.Failure refusals.NotSupported))
+    Always (serves env client (replies.Failure refusals.NotSupported None))
 
 abbrev pub UnlockStep : Env → Client → UnlockCommand → Result PathValue PathFault → Step
 UnlockStep env client command (Ok path) halted c a =
@@ -205,7 +209,7 @@ UnlockStep env client command (Ok path) halted c a =
     ChangeStep halted env client (unlock_refusal c ask) (Unlocks ask)
     (change_answer env client (Unlocks ask) (replies.Success ∷ [])) a
 UnlockStep env client command (Err fault) halted c a =
-    a ≡ serves env client (replies.Failure (path_refusal fault))
+    a ≡ serves env client (replies.Failure (path_refusal fault) None)
 
 -- ---- properties of revisions
 
@@ -219,12 +223,12 @@ RevisingStep env client ask halted c a =
 -- a date that is refused, before the revision is judged
 abbrev pub DatingStep : Bool → Env → Client → PropertyAsk → Step
 DatingStep false env client ask = RevisingStep env client ask
-DatingStep true env client ask = Always (serves env client (replies.Failure refusals.NotADate))
+DatingStep true env client ask = Always (serves env client (replies.Failure refusals.NotADate None))
 
 -- where clients may not change them it is refused, whatever else would be said of it
 abbrev pub PropertyStep : Bool → Env → Client → PropertyAsk → Step
 PropertyStep false env client ask =
-    Always (serves env client (replies.Failure refusals.RevisionPropertiesClosed))
+    Always (serves env client (replies.Failure refusals.RevisionPropertiesClosed None))
 PropertyStep true env client ask =
     DatingStep (is_refused_date client.is_of_today ask) env client ask
 
@@ -237,7 +241,7 @@ at_path client path = record client { path = path }
 -- a URL that is refused leaves the client where it is
 abbrev pub reparented : Env → Client → Result PathValue PathFault → Answer
 reparented env client (Ok path) = serves env (at_path client path) replies.Success
-reparented env client (Err fault) = serves env client (replies.Failure (path_refusal fault))
+reparented env client (Err fault) = serves env client (replies.Failure (path_refusal fault) None)
 
 -- ---- a command, and what comes before it
 

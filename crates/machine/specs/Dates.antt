@@ -1,5 +1,5 @@
 -- Dates of revisions that clients can read.
-use Rattle.std.specs.{Prelude.{ℕ, ◌==◌, nat_le, Bool, true, false, ◌&&◌, not, List, Option, Some, None, codes, if◌then◌else◌}, Cmp.Lexicographic.slice_cmp}
+use Rattle.std.specs.{Prelude.{ℕ, ◌==◌, nat_le, Bool, false, ◌&&◌, not, List, Option, Some, None, codes, if◌then◌else◌}, Cmp.Lexicographic.slice_cmp}
 use Rattle.std.specs.{List.slice_index, Ordering.{nat_cmp, is_le}}
 use Rattle.repo_api.specs.{Dates.{is_date_name, is_date_text}, declared.property_ask.PropertyAsk.PropertyAsk}
 

@@ -1,6 +1,6 @@
 -- What the commands are answered that read the history of paths.
-use Rattle.std.specs.Prelude.{ℕ, Bool, true, false, nat_lt, List, [], ◌∷◌, ◌++◌, map, Option, Some, None, Result, Ok, Err, if◌then◌else◌, codes}
-use Rattle.std.specs.List.{list_all, list_any}
+use Rattle.std.specs.Prelude.{ℕ, Bool, true, false, not, nat_lt, List, [], ◌∷◌, ◌++◌, map, Option, Some, None, Result, Ok, Err, if◌then◌else◌, codes}
+use Rattle.std.specs.List.{find, list_all, list_any}
 use Rattle.svnpath.specs.{Listings.listing, Paths.PathValue, Texts.joined, declared.fault.PathFault.PathFault}
 use Rattle.refusals.specs.{declared.Refusal.Refusal, Refusing.path_refusal}
 use Rattle.refusals.specs.declared.Refusal.TheVariants as refusals
@@ -10,7 +10,7 @@ use Rattle.history.specs.{Locations.{kind_shown, locations}, Logs.{log, newest_a
 use Rattle.commands.specs.{declared.command.GetLocationsCommand.GetLocationsCommand, declared.command.LogCommand.LogCommand}
 use Rattle.wire_replies.specs.{Replies.logged_change, declared.histories.LoggedChange.LoggedChange, declared.reply.Reply.Reply}
 use Rattle.wire_replies.specs.declared.reply.Reply.TheVariants as replies
-use Rattle.machine.specs.Readings.{author_of, revision_date, revision_value}
+use Rattle.machine.specs.{Answers.failure_at, Readings.{author_of, revision_date, revision_value}}
 
 -- ---- the end of what is listed
 
@@ -18,10 +18,10 @@ use Rattle.machine.specs.Readings.{author_of, revision_date, revision_value}
 abbrev pub ended : Reply → List Reply
 ended reply = replies.Done ∷ reply ∷ []
 
--- what was listed, or why nothing is
-abbrev pub listed_unless : Option Refusal → List Reply → List Reply
-listed_unless None told = told ++ ended replies.Success
-listed_unless (Some r) told = ended (replies.Failure r)
+-- what was listed, or why nothing is, and at which path, as a client of today, or another, is told
+abbrev pub listed_unless : Bool → Option Refusal → Option PathValue → List Reply → List Reply
+listed_unless is_of_today None path told = told ++ ended replies.Success
+listed_unless is_of_today (Some r) path told = ended (failure_at is_of_today r path)
 
 -- ---- what stands where
 
@@ -68,6 +68,10 @@ log_refusal c ask paths =
     if is_to_come c (newest_asked ask) then Some refusals.NoSuchRevision
     else if list_all (is_there c (newest_asked ask)) paths then None else Some refusals.NotFound
 
+-- the first of the paths that is not in the greater of the two revisions of a log
+abbrev pub first_missing : RepoState → LogAsk → List PathValue → Option PathValue
+first_missing c ask paths = find (λ p. not (is_there c (newest_asked ask) p)) paths
+
 -- a change, with the kind of what it made, or of what it deleted
 abbrev pub change_told : RepoState → ℕ → Changed → LoggedChange
 change_told c n e = logged_change e.0 e.1 (kind_shown c n e)
@@ -97,11 +101,13 @@ log_told c wants_changes ask paths =
     map (revision_told c wants_changes) (log (history_of c) ask paths)
 
 -- a bad path is refused before a revision that is not there, and that before a path that is not
-abbrev pub log_replies : RepoState → LogCommand → Result (List PathValue) PathFault → List Reply
-log_replies c command (Err fault) = ended (replies.Failure (path_refusal fault))
-log_replies c command (Ok paths) =
+abbrev pub log_replies : Bool → RepoState → LogCommand → Result (List PathValue) PathFault
+    → List Reply
+log_replies is_of_today c command (Err fault) = ended (replies.Failure (path_refusal fault) None)
+log_replies is_of_today c command (Ok paths) =
     let ask = log_ask c command in
-    listed_unless (log_refusal c ask paths) (log_told c command.wants_changes ask paths)
+    listed_unless is_of_today (log_refusal c ask paths) (first_missing c ask paths)
+    (log_told c command.wants_changes ask paths)
 
 -- ---- locations
 
@@ -119,10 +125,11 @@ abbrev pub locations_told : RepoState → Place → List ℕ → List Reply
 locations_told c at ns = map location_told (locations c at ns)
 
 -- a bad path is refused before a revision that is not there, and that before a path that is not
-abbrev pub locations_replies : RepoState → GetLocationsCommand → Result PathValue PathFault
-    → List Reply
-locations_replies c command (Err fault) = ended (replies.Failure (path_refusal fault))
-locations_replies c command (Ok path) =
+abbrev pub locations_replies : Bool → RepoState → GetLocationsCommand
+    → Result PathValue PathFault → List Reply
+locations_replies is_of_today c command (Err fault) =
+    ended (replies.Failure (path_refusal fault) None)
+locations_replies is_of_today c command (Ok path) =
     let at = place_at command.peg path in
-    listed_unless (locations_refusal c at command.revisions)
+    listed_unless is_of_today (locations_refusal c at command.revisions) (Some path)
     (locations_told c at command.revisions)

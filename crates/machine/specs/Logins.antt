@@ -62,8 +62,9 @@ abbrev pub url_answer : Settings → Env → ClientGreeting → Result PathValue
 url_answer s env g (Ok path) (Ok root) =
     asks s env (record { client = new_client g path root; waiting = None })
 url_answer s env g (Ok path) (Err fault) =
-    says env Ended (replies.Failure (path_refusal fault) ∷ [])
-url_answer s env g (Err fault) root = says env Ended (replies.Failure (path_refusal fault) ∷ [])
+    says env Ended (replies.Failure (path_refusal fault) None ∷ [])
+url_answer s env g (Err fault) root =
+    says env Ended (replies.Failure (path_refusal fault) None ∷ [])
 
 -- another version, or a client that waits within edits, is left without a word
 abbrev pub speaks : ClientGreeting → Bool

@@ -1,10 +1,11 @@
 -- One session of the machine: where it stands, and what each input does.
 use Rattle.std.specs.Prelude.{◌≡◌, Bool, true, false, if◌then◌else◌, List, [], ◌∷◌, length, Option, Some, None, Result, Ok, Err, ℕ}
+use Rattle.svnpath.specs.Paths.{PathValue}
 use Rattle.refusals.specs.declared.Refusal.{Refusal}
 use Rattle.refusals.specs.declared.Refusal.TheVariants as refusals
 use Rattle.dates.specs.Dates.{IsDateText}
 use Rattle.access.specs.Changing.{wants_release}
-use Rattle.repo_api.specs.{Accepted.Accepted.{Commits, Releases}, Commits.{commit_refusal, committed}, States.{RepoState, TxnState}}
+use Rattle.repo_api.specs.{Accepted.Accepted.{Commits, Releases}, Commits.{IsRefusedAt, commit_refusal, committed}, States.{RepoState, TxnState}}
 use Rattle.repo_api.specs.declared.ask.CommitAsk.{CommitAsk}
 use Rattle.commands.specs.{Commands.main_command, Logins.{client_greeting, auth_response, challenge_answer}, declared.command.MainCommand.MainCommand}
 use Rattle.wire_edits.specs.{Editing.{editor_command, ends_edit}, declared.editing.EditorCommand.EditorCommand}
@@ -15,9 +16,9 @@ use Rattle.wire_edits.specs.declared.editing.EditorCommand.TheVariants as edits
 use Rattle.wire_forms.specs.{declared.fault.CommandFault.CommandFault, declared.fault.CommandFault.TheVariants.{UnknownName, BadParameters, NoMemory}}
 use Rattle.wire_replies.specs.declared.reply.Reply.TheVariants as replies
 use Rattle.drive_wire.specs.Reporting.{client_answer}
-use Rattle.edit_rules.specs.{Editor.{Applies, finished}, Edits.EditState, Refusing.edit_refusal}
+use Rattle.edit_rules.specs.{Editor.{Applies, finished}, Edits.EditState, Refused.refused_at, Refusing.edit_refusal}
 use Rattle.machine.specs.{Settings.Settings, Hearing.Input, Hearing.Input.{Whole, Broken}, Stages.Stage}
-use Rattle.machine.specs.Answers.{Verdict, Effect, no_effect, Answer, Step, says, serves, change_answer, Behind, malformed, Always}
+use Rattle.machine.specs.Answers.{Verdict, Effect, no_effect, Answer, Step, says, serves, change_answer, Behind, failure_at, malformed, refuses, Always}
 use Rattle.machine.specs.{Answers.Verdict.{Written, NotWritten, Unknown}, Commands.{login_request, OwnStep}, Reports.{ReportingStep, driven_answer}}
 use Rattle.machine.specs.{Logins.{asks, wants_user, greeting_answer, LoginStep, ChallengeStep}, declared.env.Env.Env}
 use Rattle.machine.specs.{declared.commit_parameters.CommitParameters.CommitParameters, declared.ending.Ending.Ending}
@@ -38,15 +39,16 @@ KnownCommand false s env client command =
 abbrev pub MainStep : Settings → Env → Client → Result MainCommand CommandFault → Step
 MainStep s env client (Ok command) = KnownCommand (wants_user s client command) s env client command
 MainStep s env client (Err UnknownName) =
-    Always (serves env client (replies.Failure refusals.UnknownCommand))
+    Always (serves env client (replies.Failure refusals.UnknownCommand None))
 MainStep s env client (Err BadParameters) = Always (malformed env)
 MainStep s env client (Err NoMemory) = Always (malformed env)
 
 -- ---- an edit
 
 -- what refuses a command gives the edit up: the commands up to its end are passed over
-abbrev pub gives_up : Env → Client → Refusal → Answer
-gives_up env client r = says env (Skipping client) (replies.Failure r ∷ [])
+abbrev pub gives_up : Env → Client → Refusal → Option PathValue → Answer
+gives_up env client r path =
+    says env (Skipping client) (failure_at client.is_of_today r path ∷ [])
 
 -- an edit, as the machine has it
 abbrev pub MachineEdit : Type 0
@@ -58,7 +60,8 @@ abbrev pub JudgedEdit : Env → RepoState → MachineEdit → EditorCommand → 
 JudgedEdit env c edit command None a =
     (after : EditState) × Applies c edit.editor command after
     × (a ≡ says env (Editing (record { client = edit.client; asked = edit.asked; editor = after })) [])
-JudgedEdit env c edit command (Some r) a = a ≡ gives_up env edit.client r
+JudgedEdit env c edit command (Some r) a =
+    a ≡ gives_up env edit.client r (refused_at edit.editor command r)
 
 abbrev pub EditStep : Env → MachineEdit → EditorCommand → Step
 EditStep env edit command halted c a =
@@ -132,12 +135,13 @@ CommittedStep env c client ask t NotWritten a =
 CommittedStep env c client ask t (Unknown x) a =
     (x ≡ Commits ask t) × (a ≡ change_answer env client (Commits ask t) [] (Unknown x))
 
--- a commit of this date that was judged so
+-- a commit of this date that was judged so: one that is refused is told with a path at which it is
 abbrev pub CommitStep : Bool → Env → RepoState → Client → CommitAsk → TxnState → Option Refusal
     → Answer → Type 0
 CommitStep true env c client ask t r a =
-    a ≡ says env Ended (replies.Failure refusals.StoreFailed ∷ [])
-CommitStep false env c client ask t (Some r) a = a ≡ serves env client (replies.Failure r)
+    a ≡ says env Ended (replies.Failure refusals.StoreFailed None ∷ [])
+CommitStep false env c client ask t (Some r) a =
+    (path : Option PathValue) × IsRefusedAt c ask t path × (a ≡ refuses env client r path)
 CommitStep false env c client ask t None a =
     (v : Verdict) × CommittedStep env c client ask t v a
 
@@ -147,7 +151,7 @@ CloseStep env client asked (Ok t) halted c a = (date : List ℕ) × IsDateText e
     × (let ask = commit_ask client asked date in
     CommitStep halted env c client ask t (commit_refusal c ask t) a)
 CloseStep env client asked (Err r) halted c a =
-    a ≡ says env (Serving client) (replies.Failure r ∷ [])
+    a ≡ says env (Serving client) (replies.Failure r None ∷ [])
 
 -- ---- an end of an edit for which memory is refused
 
@@ -207,7 +211,7 @@ CommandStep env edit command (Some GivesUp) =
 abbrev pub EditingStep : Env → MachineEdit → Result EditorCommand CommandFault → Step
 EditingStep env edit (Ok command) = CommandStep env edit command (ending_of command)
 EditingStep env edit (Err UnknownName) =
-    Always (gives_up env edit.client refusals.UnknownCommand)
+    Always (gives_up env edit.client refusals.UnknownCommand None)
 EditingStep env edit (Err BadParameters) = Always (malformed env)
 EditingStep env edit (Err NoMemory) = Always (malformed env)
 

@@ -14,6 +14,7 @@ use Rattle.history.specs.Dates.{dated_rev}
 use Rattle.wire_forms.specs.Forms.{is_name}
 use Rattle.commands.specs.{declared.command.GetFileCommand.GetFileCommand, declared.command.GetDirCommand.GetDirCommand}
 use Rattle.drive_reports.specs.Refusing.{revision_read}
+use Rattle.machine.specs.Answers.{failure_at}
 use Rattle.wire_replies.specs.{Replies.{contents, uuid_text}, declared.entries.NodeInfo.NodeInfo, declared.reply.Reply.Reply}
 use Rattle.wire_replies.specs.declared.reply.Reply.TheVariants as replies
 
@@ -49,11 +50,11 @@ author_of c n = revision_value c (codes "svn:author") n
 abbrev pub dated_reply : RepoState → List ℕ → Reply
 dated_reply c date =
     if is_date_text date then replies.Revision (dated_rev c date)
-    else replies.Failure refusals.NotSupported
+    else replies.Failure refusals.NotSupported None
 
 abbrev pub property_reply_at : RepoState → List ℕ → Result ℕ Refusal → Reply
 property_reply_at c name (Ok n) = replies.RevisionProperty (revision_value c name n)
-property_reply_at c name (Err r) = replies.Failure r
+property_reply_at c name (Err r) = replies.Failure r None
 
 abbrev pub property_reply : RepoState → ℕ → List ℕ → Reply
 property_reply c n name = property_reply_at c name (revision_read c (Some n))
@@ -116,7 +117,7 @@ node_found node kinds.Directory = Some node
 abbrev pub stat_reply : RepoState → Result Place Refusal → Reply
 stat_reply c (Ok at) = replies.Stat
     (node_found (node_info c at.revision at.path) (kind_at c at.revision at.path))
-stat_reply c (Err r) = replies.Failure r
+stat_reply c (Err r) = replies.Failure r None
 
 -- ---- files
 
@@ -139,15 +140,17 @@ abbrev pub text_told : Bool → List ℕ → List Reply
 text_told false text = []
 text_told true text = contents text ++ replies.Success ∷ []
 
--- what is told of the file at a place, if one stands there
-abbrev pub file_at : RepoState → GetFileCommand → Place → Option (List ℕ) → List Reply
-file_at c command at (Some text) =
+-- what a client of today, or another, is told of the file at a place, if one stands there
+abbrev pub file_at : Bool → RepoState → GetFileCommand → Place → Option (List ℕ) → List Reply
+file_at is_of_today c command at (Some text) =
     file_told c command.wants_properties at text ∷ text_told command.wants_contents text
-file_at c command at None = replies.Failure (no_file (kind_at c at.revision at.path)) ∷ []
+file_at is_of_today c command at None =
+    failure_at is_of_today (no_file (kind_at c at.revision at.path)) (Some at.path) ∷ []
 
-abbrev pub file_replies : RepoState → GetFileCommand → Result Place Refusal → List Reply
-file_replies c command (Ok at) = file_at c command at (text_at c at.revision at.path)
-file_replies c command (Err r) = replies.Failure r ∷ []
+abbrev pub file_replies : Bool → RepoState → GetFileCommand → Result Place Refusal → List Reply
+file_replies is_of_today c command (Ok at) =
+    file_at is_of_today c command at (text_at c at.revision at.path)
+file_replies is_of_today c command (Err r) = replies.Failure r None ∷ []
 
 -- ---- directories
 
@@ -160,16 +163,23 @@ abbrev pub entries_told : RepoState → Place → Bool → List (Component × No
 entries_told c at false = []
 entries_told c at true = map (entry_told c at) (names_at c at.revision at.path)
 
--- what is told of a directory, or that nothing stands there, or a file
-abbrev pub directory_at : RepoState → GetDirCommand → Place → NodeKind → Reply
-directory_at c command at kinds.Absent = replies.Failure refusals.NotFound
-directory_at c command at kinds.File = replies.Failure refusals.NotADirectory
-directory_at c command at kinds.Directory = replies.DirectoryInfo (record {
+-- what is told of a directory
+abbrev pub directory_told : RepoState → GetDirCommand → Place → Reply
+directory_told c command at = replies.DirectoryInfo (record {
   revision = at.revision;
   properties = shown_properties c at command.wants_properties;
   entries = entries_told c at command.wants_contents;
 })
 
-abbrev pub directory_reply : RepoState → GetDirCommand → Result Place Refusal → Reply
-directory_reply c command (Ok at) = directory_at c command at (kind_at c at.revision at.path)
-directory_reply c command (Err r) = replies.Failure r
+-- that, or that nothing stands there, or a file, as a client of today, or another, is told
+abbrev pub directory_at : Bool → RepoState → GetDirCommand → Place → NodeKind → Reply
+directory_at is_of_today c command at kinds.Absent =
+    failure_at is_of_today refusals.NotFound (Some at.path)
+directory_at is_of_today c command at kinds.File =
+    failure_at is_of_today refusals.NotADirectory (Some at.path)
+directory_at is_of_today c command at kinds.Directory = directory_told c command at
+
+abbrev pub directory_reply : Bool → RepoState → GetDirCommand → Result Place Refusal → Reply
+directory_reply is_of_today c command (Ok at) =
+    directory_at is_of_today c command at (kind_at c at.revision at.path)
+directory_reply is_of_today c command (Err r) = replies.Failure r None

@@ -10,7 +10,7 @@ use Rattle.drive_reports.specs.declared.graft.Graft.{Graft}
 use Rattle.drive_wire.specs.{Reporting.{Drawn, ReportStep}, Reporting.Drawn.{GoesOn, GivenUp, Fails, Drives, Malformed}}
 use Rattle.drive_wire.specs.{declared.answering.ClientAnswer.ClientAnswer, declared.answering.ClientAnswer.TheVariants.Taken}
 use Rattle.drive_wire.specs.declared.answering.ClientAnswer.TheVariants as answers
-use Rattle.machine.specs.{Settings.Settings, Answers.{Answer, Step, says, serves, malformed}, declared.env.Env.Env, declared.phase.Client.Client}
+use Rattle.machine.specs.{Settings.Settings, Answers.{Answer, Step, says, serves, failure_at, malformed}, declared.env.Env.Env, declared.phase.Client.Client}
 use Rattle.machine.specs.{declared.phase.OpenReporting.OpenReporting, declared.phase.Phase.TheVariants.{Serving, Reporting, Driven}}
 
 -- a report, as the machine has it
@@ -22,8 +22,8 @@ abbrev pub drawn_answer : Env → Client → Drawn → Answer
 drawn_answer env client (GoesOn report) =
     says env (Reporting (record { client = client; report = report })) []
 drawn_answer env client GivenUp = says env (Serving client) []
-drawn_answer env client (Fails r) =
-    says env (Serving client) (replies.NoLogin ∷ replies.Failure r ∷ [])
+drawn_answer env client (Fails r path) =
+    says env (Serving client) (replies.NoLogin ∷ failure_at client.is_of_today r path ∷ [])
 drawn_answer env client (Drives drive) =
     says env (Driven client) (replies.NoLogin ∷ map replies.Edit drive)
 drawn_answer env client Malformed = malformed env
@@ -41,8 +41,8 @@ ReportingStep s env reporting item =
 -- if there are any
 abbrev pub drive_failure : Bool → List FailureLink → Reply
 drive_failure true (link ∷ links) = replies.Failures (link ∷ links)
-drive_failure true [] = replies.Failure refusals.EditAborted
-drive_failure false links = replies.Failure refusals.EditAborted
+drive_failure true [] = replies.Failure refusals.EditAborted None
+drive_failure false links = replies.Failure refusals.EditAborted None
 
 -- the client's answer to a drive: it was taken, or the drive is given up
 abbrev pub driven_answer : Env → Client → Option ClientAnswer → Answer

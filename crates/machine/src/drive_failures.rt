@@ -14,6 +14,6 @@ pub fn drive_failure(is_of_today: bool, links: FailureLinks) -> Reply
         Reply::Failures(links)
     } else {
         drop(links);
-        Reply::Failure(Refusal::EditAborted)
+        Reply::Failure(Refusal::EditAborted, None)
     }
 }

@@ -3,12 +3,12 @@ ghost use Rattle.std.specs.Prelude.{◌≡◌, ◌+◌, length, IfOk, IfErr, OnO
 ghost use Rattle.std.specs.{FinMap.{get, empty, len, insert, remove, from_entries}, Map.Iter.deref_pair};
 ghost use Rattle.svnpath.specs.Listings.{listing};
 ghost use Rattle.repo_api.specs.{Accepted.{Becomes, IsJudged}, Locking.{after_release, at_or_under, check_refusal, in_the_way, is_held, lock_of}};
-ghost use Rattle.repo_api.specs.Locking.{lock_refusal_at, released, releases, taking_refusal};
+ghost use Rattle.repo_api.specs.Locking.{lock_refusal_at, refusing_path, released, releases, taking_refusal};
 
 use crate::finding::{append_in_the_way, append_under};
 use crate::refusing::{
-    entry_refusal, first_refusal, is_held, lock_of, place_refusal, taking_refusal, token_set,
-    user_refusal,
+    copied, entry_refusal, first_refusal, first_refusing, is_held, lock_of, place_refusal,
+    taking_refusal, token_set, user_refusal,
 };
 use byte_string::ByteString;
 use refusals::Refusal;
@@ -108,6 +108,23 @@ impl Locks {
             Some(refusal) => Err(ChangeFault::Refused(refusal)),
             None => Ok(()),
         }
+    }
+
+    /// Finds the path of the lock that refuses a commit of the changes, by this user and with these paths and tokens
+    /// handed in: the first in the way that refuses, by the bytes of its path, whose refusal `check` answers.
+    pub fn refusing_path(
+        &self,
+        alloc: Global,
+        changes: &BTreeMap<Path, Change>,
+        user: Option<&ByteString>,
+        tokens: &[(Path, ByteString)],
+    ) -> Result<Option<Path>, AllocError>
+        ensures { IfOk result (λ path. path ≡ refusing_path self.now (from_entries changes.now.entries)
+            (option_copied user.entry) tokens.now) }
+    {
+        let found = self.in_the_way(alloc, changes)?;
+        let handed_in = token_set(alloc, tokens)?;
+        copied(first_refusing(found.as_slice(), user, &handed_in))
     }
 
     /// Locks the path, in place of the lock that stands there if that may be stolen. What stands at the

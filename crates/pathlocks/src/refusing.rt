@@ -1,8 +1,8 @@
 //! What refuses the use of a lock.
 ghost use Rattle.std.specs.{Prelude.{◌≡◌, ℕ, List, IfOk, map, option_copied}, Map.Iter.deref_pair};
 ghost use Rattle.pathlocks.specs.Handed.{is_lent};
-ghost use Rattle.repo_api.specs.Locking.{entry_refusal, first_refusal, holder_refusal, is_handed_in, is_held, is_token, lock_of, lock_place_refusal, owner_of};
-ghost use Rattle.repo_api.specs.Locking.{taking_refusal, user_refusal, way_refusal};
+ghost use Rattle.repo_api.specs.Locking.{entry_refusal, first_refusal, first_refusing, holder_refusal, is_handed_in, is_held, is_token, lock_of};
+ghost use Rattle.repo_api.specs.Locking.{lock_place_refusal, owner_of, taking_refusal, user_refusal, way_refusal};
 
 use byte_string::ByteString;
 use refusals::Refusal;
@@ -72,6 +72,34 @@ pub(crate) fn first_refusal(
         }
     }
     None
+}
+
+/// Finds the path of the first of the locks that refuses a commit with these tokens.
+pub(crate) fn first_refusing<'a>(
+    locks: &[(&'a Path, &'a Lock)],
+    user: Option<&ByteString>,
+    tokens: &BTreeSet<&[u8]>,
+) -> Option<&'a Path>
+    ensures { option_copied result
+        ≡ first_refusing (option_copied user.entry) (is_lent tokens.now.keys)
+        (map deref_pair locks.now) }
+{
+    for pair in locks {
+        if let Some(_refusal) = way_refusal(user, tokens, pair.1) {
+            return Some(pair.0);
+        }
+    }
+    None
+}
+
+/// Copies a path, if there is one.
+pub(crate) fn copied(path: Option<&Path>) -> Result<Option<Path>, AllocError>
+    ensures { IfOk result (λ copy. copy ≡ option_copied path.entry) }
+{
+    match path {
+        None => Ok(None),
+        Some(path) => Ok(Some(path.clone()?)),
+    }
 }
 
 /// Says whether the token is the lock's: it is not where there is none.

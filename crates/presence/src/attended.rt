@@ -3,7 +3,7 @@ ghost use Rattle.std.specs.Prelude.{◌≡◌};
 
 use crate::client::Presence;
 use crate::view::{AttendedView, share_of};
-use access::{Committed, RepoAccess, SharedAccess};
+use access::{Committed, NotCommitted, RepoAccess, SharedAccess};
 use repo_api::{ChangeFault, CommitAsk, LockAsk, PropertyAsk, Repository, UnlockAsk};
 use std::alloc::AllocError;
 use std::cell::Cell;
@@ -72,7 +72,7 @@ impl<A: RepoAccess + Drop, P: Presence> RepoAccess for AttendedAccess<A, P> {
         &mut self,
         ask: CommitAsk,
         txn: <A::View as Repository>::Txn,
-    ) -> Result<Committed, ChangeFault> {
+    ) -> Result<Committed, NotCommitted> {
         self.access.commit(ask, txn)
     }
 

@@ -159,6 +159,10 @@ impl<V: Repository, P: Presence> Repository for AttendedView<V, P> {
         self.view.edit(txn, op)
     }
 
+    fn refused_at(&self, ask: &CommitAsk, txn: &V::Txn) -> Result<Option<Path>, AllocError> {
+        self.view.refused_at(ask, txn)
+    }
+
     fn commit(&mut self, ask: CommitAsk, txn: V::Txn) -> Result<u64, ChangeFault> {
         self.view.commit(ask, txn)
     }

@@ -1,8 +1,10 @@
 -- Why a command was not carried out.
-use Rattle.svnpath.specs.declared.fault.PathFault.{PathFault}
+use Rattle.std.specs.Prelude.{Option}
+use Rattle.svnpath.specs.{Paths.PathValue, declared.fault.PathFault.PathFault}
 use Rattle.svnpath.specs.declared.fault.PathFault.TheVariants as path_faults
 use Rattle.refusals.specs.{Refusing.path_refusal, declared.Refusal.Refusal, declared.fault.NotDone.NotDone}
-use Rattle.refusals.specs.declared.fault.NotDone.TheVariants.{Refused, NoMemory}
+use Rattle.refusals.specs.{declared.fault.NotDone.TheVariants.{Refused, NoMemory}, declared.fault.NotDoneAt.NotDoneAt}
+use Rattle.refusals.specs.declared.fault.NotDoneAt.TheVariants as placed
 
 -- a path or a URL that is invalid is refused
 abbrev pub fault_of_path : PathFault → NotDone
@@ -22,3 +24,8 @@ IfRefusedBy NoMemory P = Unit {0}
 abbrev pub IfNoMemory : NotDone → Type 0 → Type 0
 IfNoMemory (Refused r) P = Unit {0}
 IfNoMemory NoMemory P = P
+
+-- what is known of a refusal, and of the path at which the command is refused
+abbrev pub IfRefusedAt : NotDoneAt → (Refusal → Option PathValue → Type 0) → Type 0
+IfRefusedAt (placed.Refused r path) P = P r path
+IfRefusedAt placed.NoMemory P = Unit {0}

@@ -1,5 +1,5 @@
--- The number and the text of each refusal.
-use Rattle.std.specs.Prelude.{ℕ, List, codes}
+-- The number and the text of each refusal, and whether a message says a path with it.
+use Rattle.std.specs.Prelude.{ℕ, Bool, true, false, List, codes}
 use Rattle.refusals.specs.declared.Refusal.{Refusal}
 use Rattle.refusals.specs.declared.Refusal.TheVariants as refusals
 
@@ -58,3 +58,19 @@ refusal_text refusals.UnknownCommand = codes "unknown command"
 refusal_text refusals.MalformedData = codes "malformed data"
 refusal_text refusals.NoSuchRepository = codes "no such repository"
 refusal_text refusals.EditAborted = codes "edit aborted"
+
+-- whether the message of a refusal says the path at which a command is refused
+abbrev pub says_path : Refusal → Bool
+says_path refusals.NotFound = true
+says_path refusals.NotADirectory = true
+says_path refusals.NotAFile = true
+says_path refusals.AlreadyExists = true
+says_path refusals.Conflict = true
+says_path refusals.OutOfDate = true
+says_path refusals.NoUser = true
+says_path refusals.AlreadyLocked = true
+says_path refusals.BadLockToken = true
+says_path refusals.NotTheLockOwner = true
+says_path refusals.NoSuchLock = true
+says_path refusals.LockOutOfDate = true
+says_path _ = false

@@ -2,7 +2,7 @@
 
 use crate::{Refusal, path_refusal};
 use std::alloc::{AllocError, AllocFailed};
-use svnpath::PathFault;
+use svnpath::{Path, PathFault};
 
 /// Why a command was not carried out.
 #[derive(Clone, Copy, Debug, PartialEq, Eq)]
@@ -46,5 +46,25 @@ impl From<PathFault> for NotDone {
             PathFault::NoMemory => NotDone::NoMemory,
             _ => NotDone::Refused(path_refusal(fault)),
         }
+    }
+}
+
+/// Why a command was not carried out, and where.
+#[derive(Debug, Drop)]
+pub enum NotDoneAt {
+    /// The command is refused, at this path if it is one of a path.
+    Refused(Refusal, Option<Path>),
+    /// Memory was refused. Nothing was changed.
+    NoMemory,
+}
+
+impl From<AllocError> for NotDoneAt {
+    ghost use Rattle.std.specs.Prelude.{◌≡◌};
+    ghost use Rattle.refusals.specs.declared.fault.NotDoneAt.TheVariants.{NoMemory};
+
+    ghost from_gives = { λ _ fault. fault ≡ NoMemory };
+
+    fn from(_error: AllocError) -> Self {
+        NotDoneAt::NoMemory
     }
 }

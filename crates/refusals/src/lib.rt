@@ -5,9 +5,9 @@ mod fault;
 mod refusing;
 
 ghost use Rattle.std.specs.Prelude.{◌≡◌};
-ghost use Rattle.refusals.specs.Table.{refusal_number, refusal_text};
+ghost use Rattle.refusals.specs.Table.{refusal_number, refusal_text, says_path};
 
-pub use fault::NotDone;
+pub use fault::{NotDone, NotDoneAt};
 pub use refusing::path_refusal;
 
 /// Why a command is refused.
@@ -133,6 +133,27 @@ impl Refusal {
             Refusal::MalformedData => b"malformed data",
             Refusal::NoSuchRepository => b"no such repository",
             Refusal::EditAborted => b"edit aborted",
+        }
+    }
+
+    /// Says whether the message says the path at which a command is refused, where a client is told one.
+    pub fn says_path(self) -> bool
+        ensures { result ≡ says_path self }
+    {
+        match self {
+            Refusal::NotFound
+            | Refusal::NotADirectory
+            | Refusal::NotAFile
+            | Refusal::AlreadyExists
+            | Refusal::Conflict
+            | Refusal::OutOfDate
+            | Refusal::NoUser
+            | Refusal::AlreadyLocked
+            | Refusal::BadLockToken
+            | Refusal::NotTheLockOwner
+            | Refusal::NoSuchLock
+            | Refusal::LockOutOfDate => true,
+            _ => false,
         }
     }
 }

@@ -10,6 +10,7 @@ pub mod MergedMaps
 pub mod MergeLaws
 pub mod Locking
 pub mod Commits
+pub mod RefusalLaws
 pub mod RevisionProperties
 pub mod Marks
 pub mod Transactions

@@ -1,6 +1,6 @@
 -- Locks of paths: which stand in the way of changes, and what refuses a commit, a lock and an
 -- unlock.
-use Rattle.std.specs.Prelude.{ℕ, Bool, true, false, ◌&&◌, not, if◌then◌else◌, nat_le, nat_lt, List, [], ◌∷◌, Option, Some, None}
+use Rattle.std.specs.Prelude.{ℕ, Bool, true, false, ◌&&◌, not, if◌then◌else◌, is_some, nat_le, nat_lt, List, [], ◌∷◌, Option, Some, None}
 use Rattle.std.specs.{FinMap.{get, len, entries, insert, remove, retain_keys}, List.{list_any, filter}, Option.{is_none, option_or}}
 use Rattle.svnpath.specs.{Listings.listing, Paths.{is_at_or_under, PathValue, same_component, same_path}}
 use Rattle.refusals.specs.declared.Refusal.{Refusal}
@@ -75,6 +75,18 @@ first_refusal user handed_in (e ∷ es) =
 abbrev pub check_refusal : LockMap → ChangeMap → Option (List ℕ) → HandedTokens → Option Refusal
 check_refusal locks changes user tokens =
     first_refusal user (is_handed_in tokens) (in_the_way locks changes)
+
+-- the path of the first of the locks that refuses
+abbrev pub first_refusing : Option (List ℕ) → (List ℕ → Bool) → LockList → Option PathValue
+first_refusing user handed_in [] = None
+first_refusing user handed_in (e ∷ es) =
+    if is_some (way_refusal user handed_in e.1) then Some e.0
+    else first_refusing user handed_in es
+
+-- the path of the lock that refuses a commit of the changes, if one does
+abbrev pub refusing_path : LockMap → ChangeMap → Option (List ℕ) → HandedTokens → Option PathValue
+refusing_path locks changes user tokens =
+    first_refusing user (is_handed_in tokens) (in_the_way locks changes)
 
 -- ---- lock
 

@@ -1,5 +1,5 @@
 -- A merge of the maps in states.
-use Rattle.std.specs.{Prelude.{ℕ, Bool, List, [], ◌∷◌, ◌++◌, Option, Some, None}, List.list_any, FinMap.{get, insert, empty, keys}}
+use Rattle.std.specs.{Prelude.{◌≡◌, ℕ, Bool, true, false, List, [], ◌∷◌, ◌++◌, Option, Some, None}, List.list_any, FinMap.{get, insert, empty, keys}}
 use Rattle.svnpath.specs.Paths.{PathValue}
 use Rattle.repo_api.specs.{Trees.Tree, Merge.{is_in_conflict, merged}, States.{TreeMap, tree_of}, declared.entry.Entry.Entry}
 
@@ -7,6 +7,12 @@ use Rattle.repo_api.specs.{Trees.Tree, Merge.{is_in_conflict, merged}, States.{T
 abbrev pub has_conflict : TreeMap → TreeMap → TreeMap → Bool
 has_conflict base txn youngest =
     list_any (λ p. is_in_conflict (get base p) (get txn p) (get youngest p)) (keys base ++ keys txn)
+
+-- a path in conflict, whichever, or none where none is
+abbrev pub IsConflict : TreeMap → TreeMap → TreeMap → Option PathValue → Type 0
+IsConflict base txn youngest None = has_conflict base txn youngest ≡ false
+IsConflict base txn youngest (Some p) =
+    is_in_conflict (get base p) (get txn p) (get youngest p) ≡ true
 
 abbrev pub with_entry : TreeMap → PathValue → Option Entry → TreeMap
 with_entry m p None = m

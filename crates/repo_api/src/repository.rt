@@ -1,7 +1,7 @@
 //! A repository, by what it contains.
 ghost use Rattle.std.specs.{Prelude.{◌≡◌, ◌≤◌, ◌<◌, true, length, map, IfOk, option_copied, slice_get}, FinMap.get, Map.Iter.{deref, deref_pair}};
 ghost use Rattle.repo_api.specs.{States.{RepoState, TxnState, IsBeginning, IsBegun, EditsTxn, tree_of, trees_in, youngest}, Accepted.MakesChange};
-ghost use Rattle.repo_api.specs.{Accepted.Accepted.{ChangesProperty, Commits, Locks, Releases, Unlocks}, RightEdits.IsRightEdit};
+ghost use Rattle.repo_api.specs.{Accepted.Accepted.{ChangesProperty, Commits, Locks, Releases, Unlocks}, Commits.IsRefusedAt, RightEdits.IsRightEdit};
 ghost use Rattle.repo_api.specs.{Locking.{at_or_under, releases}, Histories.{history_of, IsQuietSince}};
 ghost use Rattle.repo_api.specs.Kinds.{kind_at, has_deeper_at, created_at, node_properties_at, text_at, kind_in, created_in, text_in};
 ghost use Rattle.repo_api.specs.{Dates.IsUndatedSince, Readings.{names_at, IsSameAt}};
@@ -147,6 +147,12 @@ pub trait Repository: Drop {
             (tree_of (txn_state txn.old).tree) op }
         ensures { EditsTxn result (content self.now).revisions (txn_state txn.old) op
             (txn_state txn.new) };
+
+    /// Finds a path at which a commit of the transaction is refused, if it is at one. The transaction was last shown a
+    /// repository whose revisions begin this one's.
+    fn refused_at(&self, ask: &CommitAsk, txn: &Self::Txn) -> Result<Option<Path>, AllocError>
+        requires { IsBeginning (txn_state txn.now).shown (content self.now).revisions }
+        ensures { IfOk result (IsRefusedAt (content self.now) ask.now (txn_state txn.now)) };
 
     /// Makes the transaction the next revision, and answers its number. The transaction was last shown a
     /// repository whose revisions begin this one's.

@@ -1,11 +1,11 @@
 -- That some plan exists, whatever is left.
-use Rattle.std.proofs.Common.{arith, ◌≡◌, ◌<◌, ◌≤◌, ◌+◌, ℕ, zero, suc, Bool, true, false, List, [], ◌∷◌, ◌++◌, length, refl, sym, subst, ◌⊎◌, inl, inr}
+use Rattle.std.proofs.Common.{arith, ◌≡◌, ◌<◌, ◌≤◌, ◌+◌, ℕ, zero, suc, Bool, true, false, List, [], ◌∷◌, ◌++◌, length, map, refl, sym, subst, ◌⊎◌, inl, inr}
 use Rattle.std.proofs.{lemmas.Bool.false≢true, lemmas.List.Elements.{All-head, All-tail}}
 use Rattle.std.specs.Prelude.{is_some, All}
 use Rattle.svnpath.specs.Paths.{PathValue}
 use Rattle.repo_api.specs.Trees.{is_directory_there}
-use Rattle.reporter.specs.{declared.unvisited.Unvisited.Unvisited, declared.visit.Visit.Visit, declared.visit.Visit.TheVariants.{Open, Add}}
-use Rattle.reporter.specs.{Knowing.paths_of, Left.{ArePlansOf, IsLeft, IsPlanBelow, IsPlanOf, behind}, Nesting.entry_visits}
+use Rattle.reporter.specs.{declared.unvisited.Unvisited.Unvisited, Visits.Visit, Visits.Visit.{Open, Add, Delete}}
+use Rattle.reporter.specs.{Left.{ArePlansOf, IsLeft, IsPlanBelow, IsPlanOf, behind}, Nesting.entry_visits}
 use Rattle.reporter.specs.Walks.{WalkedTrees, IsChild, IsDue, IsListed, IsSame, IsShorter, deletes_of, goes_at}
 use Rattle.reporter.proofs.{Planning.same_length, Plans.{Leads, absent, added, below_directory, below_file, comes, opened, same, staying}, Reasons.due_reason}
 use Rattle.reporter.proofs.Visiting.{reason_of}
@@ -84,6 +84,6 @@ module _ (t : WalkedTrees) (bound : ℕ) (ends : IsShorter t.new bound) (leads :
   pub some_left : {K : Type 0} (ds : List (Unvisited K)) → (vs : List Visit) × IsLeft t ds vs
   some_left [] = ([], refl)
   some_left (d ∷ ds) =
-      let now : (vs : List Visit) × ArePlansOf t d.is_anew (paths_of d.entries.items) vs = plans_of d.is_anew (paths_of d.entries.items) in
+      let now : (vs : List Visit) × ArePlansOf t d.is_anew d.entries.items vs = plans_of d.is_anew d.entries.items in
       let later : (vs : List Visit) × IsLeft t ds vs = some_left ds in
-      ((d.deletes.items ++ now.0) ++ behind ds later.0, (d.deletes.items ++ now.0, later.0, refl, (now.0, refl, now.1), later.1))
+      ((map Delete d.deletes.items ++ now.0) ++ behind ds later.0, (map Delete d.deletes.items ++ now.0, later.0, refl, (now.0, refl, now.1), later.1))

@@ -1,9 +1,9 @@
 -- What is known of paths, in their lists.
-use Rattle.std.proofs.Common.{arith, ◌≡◌, ◌<◌, ◌⊎◌, ⊎_elim, ℕ, List, [], ◌∷◌, ◌++◌, length, get_or, sym, ap, ◌∙◌, subst}
-use Rattle.std.proofs.lemmas.{List.{get_or-map, length-map}, List.Elements.{All-nil, All-cons, All-head, All-tail, All-append, All-get_or, All-push}}
+use Rattle.std.proofs.Common.{arith, ◌≡◌, ◌<◌, ◌⊎◌, ⊎_elim, ℕ, List, [], ◌∷◌, ◌++◌, length, get_or, inl, inr, refl, sym, ap, ◌∙◌, subst}
+use Rattle.std.proofs.lemmas.{List.{get_or-map, length-map}, List.Elements.{All-nil, All-cons, All-head, All-tail, All-get_or, All-push}}
 use Rattle.std.specs.Prelude.{All, OnOk, Result, Ok, Err}
 use Rattle.svnpath.specs.Paths.{PathValue}
-use Rattle.reporter.specs.{Knowing.{AreKnown, AreLeftKnown, AreSilentKnown, HoldsKnown, IsKnown, paths_of}, Visiting.IsNew, Walks.IsChild}
+use Rattle.reporter.specs.{Knowing.{AreKnown, AreLeftKnown, AreSilentKnown, HoldsKnown, IsKnown, IsKnownAt, IsReached, paths_of}, Visiting.IsNew, Walks.IsChild}
 use Rattle.reporter.specs.{declared.known_path.KnownPath.KnownPath, declared.memory.Memory.Memory, declared.memory.SilentPath.SilentPath, declared.unvisited.Unvisited.Unvisited, declared.visitor.Visitor.Visitor}
 
 -- the path of one of them
@@ -17,7 +17,35 @@ within_paths xs i within = omega (within, length-map xs (λ y. y.path), arith)
 pub child_at : {K : Type 0} (p : PathValue) (xs : List (KnownPath K)) (i : ℕ) (x : KnownPath K) → i < length xs → x ≡ get_or xs i x → All (IsChild p) (paths_of xs) → IsChild p x.path
 child_at p xs i x within is each = subst (IsChild p) (path_at xs i x within is) (All-get_or (IsChild p) (paths_of xs) i x.path (within_paths xs i within) each)
 
+-- what is in a path is reached from it
+pub children_reached : (p : PathValue) (xs : List PathValue) → All (IsChild p) xs → All (IsReached p) xs
+children_reached p [] each = All-nil (IsReached p)
+children_reached p (x ∷ xs) each = All-cons (IsReached p) x xs (inr (All-head (IsChild p) x xs each)) (children_reached p xs (All-tail (IsChild p) x xs each))
+
+-- so is the path itself
+pub itself_reached : (p : PathValue) (xs : List PathValue) → xs ≡ p ∷ [] → All (IsReached p) xs
+itself_reached p xs is = subst (All (IsReached p)) (sym is) (All-cons (IsReached p) p [] (inl refl) (All-nil (IsReached p)))
+
 module _ {K : Type 0} (knows : K → PathValue → Type 0) where
+  -- what is left is known from a copy of the path in front
+  pub left_known : (here : Unvisited K) (p : PathValue) (xs : List PathValue) → IsKnownAt knows p here.from → here.entries.items ≡ xs → All (IsReached p) xs → AreLeftKnown knows here
+  left_known here p xs known is near = record {
+    from = known.1;
+    near = subst (λ q. All (IsReached q) here.entries.items) (sym known.0) (subst (All (IsReached p)) (sym is) near);
+  }
+
+  -- so is what is left behind the first
+  pub left_later : (old new : Unvisited K) (x : PathValue) → new.from ≡ old.from → old.entries.items ≡ x ∷ new.entries.items → AreLeftKnown knows old → AreLeftKnown knows new
+  left_later old new x same is known = record {
+    from = subst (IsKnown knows) (sym same) known.from;
+    near = subst (λ (f : KnownPath K). All (IsReached f.path) new.entries.items) (sym same)
+        (All-tail (IsReached old.from.path) x new.entries.items (subst (All (IsReached old.from.path)) is known.near));
+  }
+
+  -- and the first is reached
+  pub first_reached : (here : Unvisited K) (x : PathValue) (rest : List PathValue) → here.entries.items ≡ x ∷ rest → AreLeftKnown knows here → IsReached here.from.path x
+  first_reached here x rest is known = All-head (IsReached here.from.path) x rest (subst (All (IsReached here.from.path)) is known.near)
+
   -- one of those of which something is known
   pub known_at : (xs : List (KnownPath K)) (i : ℕ) (x : KnownPath K) → i < length xs → x ≡ get_or xs i x → AreKnown knows xs → IsKnown knows x
   known_at xs i x within is known = subst (IsKnown knows) (sym is) (All-get_or (IsKnown knows) xs i x within known)

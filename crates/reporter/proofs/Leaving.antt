@@ -1,92 +1,112 @@
 -- What is left to be visited, before and after a visit.
-use Rattle.std.proofs.Common.{◌≡◌, Bool, true, false, List, [], ◌∷◌, ◌++◌, refl, sym, ap, ◌∙◌, subst, if◌then◌else◌, map}
-use Rattle.std.proofs.{Common.MatchOption, lemmas.Bool.false≢true, lemmas.List.{append_assoc, append-nil, map-append}}
-use Rattle.std.proofs.lemmas.List.Elements.{filter-append}
-use Rattle.std.specs.Prelude.{None, Option, Some}
+use Rattle.std.proofs.Common.{◌≡◌, Bool, true, false, List, [], ◌∷◌, ◌++◌, refl, sym, ap, ◌∙◌, subst, if◌then◌else◌, map, inl, inr, option_map}
+use Rattle.std.proofs.{Common.MatchOption, lemmas.Bool.false≢true, lemmas.List.{append_assoc, append-nil}}
+use Rattle.std.proofs.lemmas.List.Elements.{All-nil, All-cons, All-head, All-tail}
+use Rattle.std.specs.Prelude.{None, Option, Some, All}
 use Rattle.svnpath.specs.Paths.{PathValue}
 use Rattle.repo_api.specs.Trees.{HasDirectory}
 use Rattle.drive_rules.specs.{Places.is_in_directory, Scopes.under}
 use Rattle.reporter.specs.{declared.unvisited.Found.Found, declared.unvisited.Found.TheVariants.{Single, Entered}, declared.unvisited.Unvisited.Unvisited}
-use Rattle.reporter.specs.{declared.known_path.KnownPath.KnownPath, declared.visit.Visit.Visit, declared.visit.Visit.TheVariants.{Delete, Close}, Knowing.paths_of}
-use Rattle.reporter.specs.Left.{ArePlansOf, IsLeft, IsLeftIn, IsEnough, IsPlanBelow, IsPlanOf, AreVisitsOf, behind, IsNextFound, IsTopPlan, IsRootPlan}
-use Rattle.reporter.specs.{Nesting.AreNested, Visits.IsRightPlan, Walks.{WalkedTrees, AreAlike, BothHold, goes_at, going, old_side, deletes_of, IsListed}}
-use Rattle.reporter.proofs.{Nested.nested_delete, Planning.{top_cut, root_opened}, Plans.{below_directory, Leads, plans_append}}
-use Rattle.reporter.proofs.Reasons.{alike_silent, alike_stays}
+use Rattle.reporter.specs.{declared.visit.KnownVisit.KnownVisit, Visits.Visit, Visits.Visit.{Delete, Close}, Knowing.{visit_of}}
+use Rattle.reporter.specs.Left.{ArePlansOf, IsLeft, IsLeftIn, IsPlanBelow, IsPlanOf, AreVisitsOf, behind, IsNextFound, IsTopPlan, IsRootPlan}
+use Rattle.reporter.specs.{Nesting.AreNested, Visits.IsRightPlan, Walks.{WalkedTrees, AreUnlikeListed, BothHold, IsChild, LeavesUnlike, goes_at, going, old_side, deletes_of, IsListed}}
+use Rattle.reporter.proofs.{Nested.nested_delete, Planning.{top_cut, root_opened}, Plans.{below_directory, Leads}}
+use Rattle.reporter.proofs.Reasons.{SaysNothing, alike_silent, alike_stays}
 
 -- what is left where this goes, and these entries are left
 abbrev pub LeftOf : WalkedTrees → List Visit → Bool → List PathValue → List Visit → Type 0
 LeftOf t ds anew es vs = (later : List Visit) × (vs ≡ ds ++ later) × ArePlansOf t anew es later
 
+-- ---- below a directory
+
+-- what is not visited yet below a directory is a plan of what is below it
+below_left : (t : WalkedTrees) (anew : Bool) (p : PathValue) (xs : List PathValue) (vs : List Visit) → IsListed t p xs
+    → LeftOf t (deletes_of anew t.apart t.old t.new xs) anew xs vs → IsPlanBelow t anew p vs
+below_left t anew p xs vs listed (later, is, plans) = subst (IsPlanBelow t anew p) (sym is) (below_directory t anew p xs later listed plans)
+
 -- ---- what is left out
 
-plans_split : (t : WalkedTrees) (anew : Bool) (xs ys : List PathValue) (vs : List Visit) → ArePlansOf t anew (xs ++ ys) vs
-    → (first : List Visit) × (second : List Visit) × (vs ≡ first ++ second) × ArePlansOf t anew xs first × ArePlansOf t anew ys second
-plans_split t anew [] ys vs plans = ([], vs, refl, refl, plans)
-plans_split t anew (x ∷ xs) ys vs (now, later, is, plan, plans) =
-    let s = plans_split t anew xs ys later plans in
-    (now ++ s.0, s.1, is ∙ ap (λ us. now ++ us) s.2 ∙ sym (append_assoc now s.0 s.1), (now, s.0, refl, plan, s.3), s.4)
-
-deletes_append : (t : WalkedTrees) (xs ys : List PathValue) → deletes_of false t.apart t.old t.new (xs ++ ys) ≡ deletes_of false t.apart t.old t.new xs ++ deletes_of false t.apart t.old t.new ys
-deletes_append t xs ys = ap (map Delete) (filter-append (goes_at t) xs ys) ∙ map-append Delete (going t.apart t.old t.new xs) (going t.apart t.old t.new ys)
+-- what is to be said of these paths is to be said of those that were kept of them, and no more
+record IsEnough (t : WalkedTrees) (ps kept : List PathValue) : Type 0 where
+  pub deletes : deletes_of false t.apart t.old t.new kept ≡ deletes_of false t.apart t.old t.new ps
+  pub plans : (vs : List Visit) → ArePlansOf t false kept vs → ArePlansOf t false ps vs
 
 not_deleted : (t : WalkedTrees) (x : PathValue) (ys : List PathValue) → goes_at t x ≡ false → deletes_of false t.apart t.old t.new (x ∷ ys) ≡ deletes_of false t.apart t.old t.new ys
 not_deleted t x ys stays = ap (λ b. map Delete (if b then x ∷ going t.apart t.old t.new ys else going t.apart t.old t.new ys)) stays
 
--- one at which all is alike may be left out
-pub left_out : (t : WalkedTrees) (ps xs ys : List PathValue) (x : PathValue) → AreAlike t x → IsEnough t ps (xs ++ x ∷ ys) → IsEnough t ps (xs ++ ys)
-left_out t ps xs ys x alike enough = record {
-  deletes = deletes_append t xs ys ∙ ap (λ ds. deletes_of false t.apart t.old t.new xs ++ ds) (sym (not_deleted t x ys (alike_stays t x alike))) ∙ sym (deletes_append t xs (x ∷ ys)) ∙ enough.deletes;
-  plans = λ vs plans.
-      let s = plans_split t false xs ys vs plans in
-      enough.plans vs (subst (ArePlansOf t false (xs ++ x ∷ ys)) (sym s.2) (plans_append t false xs (x ∷ ys) s.0 s.1 s.3 ([], s.1, refl, (alike_silent t x alike).1, s.4)));
-}
+deletes_more : (t : WalkedTrees) (x : PathValue) (ys zs : List PathValue) → deletes_of false t.apart t.old t.new ys ≡ deletes_of false t.apart t.old t.new zs → deletes_of false t.apart t.old t.new (x ∷ ys) ≡ deletes_of false t.apart t.old t.new (x ∷ zs)
+deletes_more t x ys zs same = by (goes_at t x)
+  where
+    by : (b : Bool) → map Delete (if b then x ∷ going t.apart t.old t.new ys else going t.apart t.old t.new ys) ≡ map Delete (if b then x ∷ going t.apart t.old t.new zs else going t.apart t.old t.new zs)
+    by true = ap (λ us. Delete x ∷ us) same
+    by false = same
 
--- so it is with the next of the paths that are looked at
-pub place_kept : {K : Type 0} (t : WalkedTrees) (ps : List PathValue) (kept new left rest : List (KnownPath K)) (x : KnownPath K) → left ≡ x ∷ rest → new ≡ kept ++ x ∷ [] → IsEnough t ps (paths_of (kept ++ left)) → IsEnough t ps (paths_of (new ++ rest))
-place_kept t ps kept new left rest x next pushed enough =
-    subst (λ zs. IsEnough t ps (paths_of zs)) (ap (λ ys. kept ++ ys) next ∙ sym (append_assoc kept (x ∷ []) rest) ∙ ap (λ ys. ys ++ rest) (sym pushed)) enough
+-- those at which all is alike may be left out
+enough_without : (t : WalkedTrees) (ps kept : List PathValue) → LeavesUnlike t ps kept → IsEnough t ps kept
+enough_without t [] kept none = subst (IsEnough t []) (sym none) (record { deletes = refl; plans = λ vs plans. plans })
+enough_without t (p ∷ ps) kept (inl (alike, unlike)) =
+    let rest = enough_without t ps kept unlike in record {
+      deletes = rest.deletes ∙ sym (not_deleted t p ps (alike_stays t p alike));
+      plans = λ vs plans. ([], vs, refl, (alike_silent t p alike).1, rest.plans vs plans);
+    }
+enough_without t (p ∷ ps) kept (inr (more, is, unlike)) =
+    let rest = enough_without t ps more unlike in
+    subst (IsEnough t (p ∷ ps)) (sym is) (record {
+      deletes = deletes_more t p more ps rest.deletes;
+      plans = λ vs (now, later, goes_on, plan, plans). (now, later, goes_on, plan, rest.plans later plans);
+    })
 
-pub place_out : {K : Type 0} (t : WalkedTrees) (ps : List PathValue) (kept left rest : List (KnownPath K)) (x : KnownPath K) → left ≡ x ∷ rest → AreAlike t x.path → IsEnough t ps (paths_of (kept ++ left)) → IsEnough t ps (paths_of (kept ++ rest))
-place_out t ps kept left rest x next alike enough =
-    subst (IsEnough t ps) (sym (map-append (λ y. y.path) kept rest))
-    (left_out t ps (paths_of kept) (paths_of rest) x.path alike (subst (IsEnough t ps) (map-append (λ y. y.path) kept (x ∷ rest)) (subst (λ ys. IsEnough t ps (paths_of (kept ++ ys))) next enough)))
+-- what is to be visited of the paths that are left is to be visited of all
+pub unlike_left : (t : WalkedTrees) (p : PathValue) (kept : List PathValue) (vs : List Visit) → AreUnlikeListed t p kept → AreVisitsOf t false kept vs → IsPlanBelow t false p vs
+unlike_left t p kept vs listed (later, is, plans) =
+    let enough = enough_without t listed.all kept listed.unlike in
+    below_left t false p listed.all vs listed.listed (later, is ∙ ap (λ us. us ++ later) enough.deletes, enough.plans later plans)
 
-pub enough_left : {K : Type 0} (t : WalkedTrees) (here : Unvisited K) (ps : List PathValue) (kept : List (KnownPath K)) (vs : List Visit) → here.deletes.items ≡ deletes_of false t.apart t.old t.new (paths_of kept) → here.entries.items ≡ kept → here.is_anew ≡ false
-    → IsEnough t ps (paths_of kept) → IsLeftIn t here vs → AreVisitsOf t false ps vs
-enough_left t here ps kept vs deletes entries stays enough (later, is, plans) =
-    (later, is ∙ ap (λ us. us ++ later) (deletes ∙ enough.deletes), enough.plans later (subst (λ b. ArePlansOf t b (paths_of kept) later) stays (subst (λ ys. ArePlansOf t here.is_anew (paths_of ys) later) entries plans)))
+-- where nothing is said of these, nothing is said of all
+pub nothing_unlike : (t : WalkedTrees) (p : PathValue) (kept : List PathValue) → AreUnlikeListed t p kept → SaysNothing t kept → IsPlanBelow t false p []
+nothing_unlike t p kept listed says = unlike_left t p kept [] listed ([], sym (ap (λ ds. map Delete ds ++ []) says.1), says.0)
 
-pub all_left : {K : Type 0} (t : WalkedTrees) (here : Unvisited K) (anew : Bool) (ps : List (KnownPath K)) (vs : List Visit) → here.deletes.items ≡ [] → here.entries.items ≡ ps → here.is_anew ≡ anew → anew ≡ true
-    → IsLeftIn t here vs → AreVisitsOf t anew (paths_of ps) vs
-all_left t here true ps vs deletes entries stays comes (later, is, plans) =
-    (later, is ∙ ap (λ us. us ++ later) deletes, subst (λ b. ArePlansOf t b (paths_of ps) later) stays (subst (λ ys. ArePlansOf t here.is_anew (paths_of ys) later) entries plans))
-all_left t here false ps vs deletes entries stays comes left = absurd (false≢true comes)
+-- they are in the directory
+pub unlike_children : (t : WalkedTrees) (p : PathValue) (kept : List PathValue) → AreUnlikeListed t p kept → All (IsChild p) kept
+unlike_children t p kept listed = by listed.all kept listed.listed.children.each listed.unlike
+  where
+    by : (ps ks : List PathValue) → All (IsChild p) ps → LeavesUnlike t ps ks → All (IsChild p) ks
+    by [] ks each none = subst (All (IsChild p)) (sym none) (All-nil (IsChild p))
+    by (x ∷ ps) ks each (inl (alike, unlike)) = by ps ks (All-tail (IsChild p) x ps each) unlike
+    by (x ∷ ps) ks each (inr (more, is, unlike)) = subst (All (IsChild p)) (sym is) (All-cons (IsChild p) x more (All-head (IsChild p) x ps each) (by ps more (All-tail (IsChild p) x ps each) unlike))
+
+-- what is left where a directory stays, and where it comes anew
+pub staying_left : {K : Type 0} (t : WalkedTrees) (here : Unvisited K) (ps : List PathValue) (vs : List Visit) → here.deletes.items ≡ going t.apart t.old t.new ps → here.entries.items ≡ ps → here.is_anew ≡ false
+    → IsLeftIn t here vs → AreVisitsOf t false ps vs
+staying_left t here ps vs deletes entries stays (later, is, plans) =
+    (later, is ∙ ap (λ ds. map Delete ds ++ later) deletes, subst (λ b. ArePlansOf t b ps later) stays (subst (λ ys. ArePlansOf t here.is_anew ys later) entries plans))
+
+pub anew_left : (t : WalkedTrees) (p : PathValue) (ds es ps : List PathValue) (anew : Bool) (vs : List Visit) → ds ≡ [] → es ≡ ps → anew ≡ true → IsListed t p ps
+    → LeftOf t (map Delete ds) anew es vs → IsPlanBelow t anew p vs
+anew_left t p ds es ps true vs none entries new listed (later, is, plans) =
+    below_left t true p ps vs listed (later, is ∙ ap (λ xs. map Delete xs ++ later) none, subst (λ ys. ArePlansOf t true ys later) entries plans)
+anew_left t p ds es ps false vs none entries new listed left = absurd (false≢true new)
 
 -- ---- in a directory
 
--- what is not visited yet below a directory is a plan of what is below it
-pub below_left : (t : WalkedTrees) (anew : Bool) (p : PathValue) (xs : List PathValue) (vs : List Visit) → IsListed t p xs
-    → LeftOf t (deletes_of anew t.apart t.old t.new xs) anew xs vs → IsPlanBelow t anew p vs
-below_left t anew p xs vs listed (later, is, plans) = subst (IsPlanBelow t anew p) (sym is) (below_directory t anew p xs later listed plans)
-
-pub entry_left : {K : Type 0} (t : WalkedTrees) (ds : List Visit) (anew : Bool) (x : KnownPath K) (es rest : List (KnownPath K)) (vs more : List Visit) → ds ≡ [] → es ≡ x ∷ rest → IsPlanOf t anew x.path vs → LeftOf t ds anew (paths_of rest) more → LeftOf t ds anew (paths_of es) (vs ++ more)
+pub entry_left : (t : WalkedTrees) (ds : List Visit) (anew : Bool) (x : PathValue) (es rest : List PathValue) (vs more : List Visit) → ds ≡ [] → es ≡ x ∷ rest → IsPlanOf t anew x vs → LeftOf t ds anew rest more → LeftOf t ds anew es (vs ++ more)
 entry_left t ds anew x es rest vs more empty pops plan (later, left, plans) =
-    (vs ++ later, ap (λ us. vs ++ us) (left ∙ ap (λ us. us ++ later) empty) ∙ sym (ap (λ us. us ++ (vs ++ later)) empty), subst (λ ys. ArePlansOf t anew (paths_of ys) (vs ++ later)) (sym pops) (vs, later, refl, plan, plans))
+    (vs ++ later, ap (λ us. vs ++ us) (left ∙ ap (λ us. us ++ later) empty) ∙ sym (ap (λ us. us ++ (vs ++ later)) empty), subst (λ ys. ArePlansOf t anew ys (vs ++ later)) (sym pops) (vs, later, refl, plan, plans))
 
-pub none_left : {K : Type 0} (t : WalkedTrees) (ds : List Visit) (anew : Bool) (es : List (KnownPath K)) → ds ≡ [] → es ≡ [] → LeftOf t ds anew (paths_of es) []
-none_left t ds anew es empty none = ([], sym (ap (λ us. us ++ []) empty), subst (λ ys. ArePlansOf t anew (paths_of ys) []) (sym none) refl)
+pub none_left : (t : WalkedTrees) (ds : List Visit) (anew : Bool) (es : List PathValue) → ds ≡ [] → es ≡ [] → LeftOf t ds anew es []
+none_left t ds anew es empty none = ([], sym (ap (λ us. us ++ []) empty), subst (λ ys. ArePlansOf t anew ys []) (sym none) refl)
 
 -- ---- in the directories that are open
 
-pub single_left : {K : Type 0} (t : WalkedTrees) (old new : Unvisited K) (ds : List (Unvisited K)) (v : Visit) (vs : List Visit) → IsNextFound t old new (Single v) → IsLeft t (new ∷ ds) vs → IsLeft t (old ∷ ds) (v ∷ vs)
-single_left t old new ds v vs goes_on (now, later, is, left, others) = (v ∷ now, later, ap (λ us. v ∷ us) is, goes_on.next (v ∷ []) now refl left, others)
+pub single_left : {K : Type 0} (t : WalkedTrees) (old new : Unvisited K) (ds : List (Unvisited K)) (v : KnownVisit K) (vs : List Visit) → IsNextFound t old new (Single v) → IsLeft t (new ∷ ds) vs → IsLeft t (old ∷ ds) (visit_of v ∷ vs)
+single_left t old new ds v vs goes_on (now, later, is, left, others) = (visit_of v ∷ now, later, ap (λ us. visit_of v ∷ us) is, goes_on.next (visit_of v ∷ []) now refl left, others)
 
-pub entered_left : {K : Type 0} (t : WalkedTrees) (old new inner : Unvisited K) (ds : List (Unvisited K)) (v : Visit) (vs : List Visit) → IsNextFound t old new (Entered v inner) → IsLeft t (inner ∷ new ∷ ds) vs → IsLeft t (old ∷ ds) (v ∷ vs)
+pub entered_left : {K : Type 0} (t : WalkedTrees) (old new inner : Unvisited K) (ds : List (Unvisited K)) (v : KnownVisit K) (vs : List Visit) → IsNextFound t old new (Entered v inner) → IsLeft t (inner ∷ new ∷ ds) vs → IsLeft t (old ∷ ds) (visit_of v ∷ vs)
 entered_left t old new inner ds v vs goes_on (below, others, is, left_below, (now, later, goes_on_by, left, outer)) = (
-  (v ∷ (below ++ Close ∷ [])) ++ now,
+  (visit_of v ∷ (below ++ Close ∷ [])) ++ now,
   later,
-  ap (λ us. v ∷ us) (is ∙ ap (λ us. below ++ Close ∷ us) goes_on_by ∙ sym (append_assoc below (Close ∷ []) (now ++ behind ds later)) ∙ sym (append_assoc (below ++ Close ∷ []) now (behind ds later))),
-  goes_on.next (v ∷ (below ++ Close ∷ [])) now (below, refl, left_below) left,
+  ap (λ us. visit_of v ∷ us) (is ∙ ap (λ us. below ++ Close ∷ us) goes_on_by ∙ sym (append_assoc below (Close ∷ []) (now ++ behind ds later)) ∙ sym (append_assoc (below ++ Close ∷ []) now (behind ds later))),
+  goes_on.next (visit_of v ∷ (below ++ Close ∷ [])) now (below, refl, left_below) left,
   outer,
 )
 
@@ -94,27 +114,27 @@ pub closed_left : {K : Type 0} (t : WalkedTrees) (here : Unvisited K) (ds : List
 closed_left t here ds v vs end closes left = ([], vs, sym closes, end, left)
 
 -- it is closed, unless it is the last
-pub closed_if_left : {K : Type 0} (t : WalkedTrees) (here : Unvisited K) (ds all : List (Unvisited K)) (o : Option Visit) → all ≡ here ∷ ds → IsLeftIn t here []
-    → MatchOption o (ds ≡ []) (λ visit. (vs : List Visit) → behind ds vs ≡ visit ∷ vs) → MatchOption o (IsLeft t all []) (λ visit. (vs : List Visit) → IsLeft t ds vs → IsLeft t all (visit ∷ vs))
+pub closed_if_left : {K : Type 0} (t : WalkedTrees) (here : Unvisited K) (ds all : List (Unvisited K)) (o : Option (KnownVisit K)) → all ≡ here ∷ ds → IsLeftIn t here []
+    → MatchOption o (ds ≡ []) (λ visit. (vs : List Visit) → behind ds vs ≡ visit_of visit ∷ vs) → MatchOption (option_map visit_of o) (IsLeft t all []) (λ visit. (vs : List Visit) → IsLeft t ds vs → IsLeft t all (visit ∷ vs))
 closed_if_left t here ds all None is end none = subst (λ us. IsLeft t us []) (sym is) (subst (λ us. IsLeft t (here ∷ us) []) (sym none) ([], [], refl, end, refl))
-closed_if_left t here ds all (Some v) is end closes = λ vs left. subst (λ xs. IsLeft t xs (v ∷ vs)) (sym is) (closed_left t here ds v vs end (closes vs) left)
+closed_if_left t here ds all (Some v) is end closes = λ vs left. subst (λ xs. IsLeft t xs (visit_of v ∷ vs)) (sym is) (closed_left t here ds (visit_of v) vs end (closes vs) left)
 
 -- so it is where what is remembered is so
-pub closed_next : {K : Type 0} (t : WalkedTrees) (here : Unvisited K) (ds all : List (Unvisited K)) (o : Option Visit) (A B : Type 0) → all ≡ here ∷ ds → (A → B × IsLeftIn t here [])
-    → MatchOption o (ds ≡ []) (λ visit. (vs : List Visit) → behind ds vs ≡ visit ∷ vs)
-    → MatchOption o (A → IsLeft t all []) (λ visit. (vs : List Visit) → (B → IsLeft t ds vs) → A → IsLeft t all (visit ∷ vs))
+pub closed_next : {K : Type 0} (t : WalkedTrees) (here : Unvisited K) (ds all : List (Unvisited K)) (o : Option (KnownVisit K)) (A B : Type 0) → all ≡ here ∷ ds → (A → B × IsLeftIn t here [])
+    → MatchOption o (ds ≡ []) (λ visit. (vs : List Visit) → behind ds vs ≡ visit_of visit ∷ vs)
+    → MatchOption (option_map visit_of o) (A → IsLeft t all []) (λ visit. (vs : List Visit) → (B → IsLeft t ds vs) → A → IsLeft t all (visit ∷ vs))
 closed_next t here ds all None A B is end none = λ a. closed_if_left t here ds all None is (end a).1 none
 closed_next t here ds all (Some v) A B is end closes = λ vs left a. closed_if_left t here ds all (Some v) is (end a).1 closes vs (left (end a).0)
 
-pub single_next : {K : Type 0} (t : WalkedTrees) (old new : Unvisited K) (ds all more : List (Unvisited K)) (found : Found K) (v : Visit) (A B : Type 0) → all ≡ old ∷ ds → more ≡ new ∷ ds → found ≡ Single v → (A → B × IsNextFound t old new found)
-    → (vs : List Visit) → (B → IsLeft t more vs) → A → IsLeft t all (v ∷ vs)
+pub single_next : {K : Type 0} (t : WalkedTrees) (old new : Unvisited K) (ds all more : List (Unvisited K)) (found : Found K) (v : KnownVisit K) (A B : Type 0) → all ≡ old ∷ ds → more ≡ new ∷ ds → found ≡ Single v → (A → B × IsNextFound t old new found)
+    → (vs : List Visit) → (B → IsLeft t more vs) → A → IsLeft t all (visit_of v ∷ vs)
 single_next t old new ds all more found v A B is later single goes_on vs left a =
-    subst (λ us. IsLeft t us (v ∷ vs)) (sym is) (single_left t old new ds v vs (subst (IsNextFound t old new) single (goes_on a).1) (subst (λ us. IsLeft t us vs) later (left (goes_on a).0)))
+    subst (λ us. IsLeft t us (visit_of v ∷ vs)) (sym is) (single_left t old new ds v vs (subst (IsNextFound t old new) single (goes_on a).1) (subst (λ us. IsLeft t us vs) later (left (goes_on a).0)))
 
-pub entered_next : {K : Type 0} (t : WalkedTrees) (old new inner : Unvisited K) (ds all more : List (Unvisited K)) (found : Found K) (v : Visit) (A B : Type 0) → all ≡ old ∷ ds → more ≡ inner ∷ new ∷ ds → found ≡ Entered v inner
-    → (A → B × IsNextFound t old new found) → (vs : List Visit) → (B → IsLeft t more vs) → A → IsLeft t all (v ∷ vs)
+pub entered_next : {K : Type 0} (t : WalkedTrees) (old new inner : Unvisited K) (ds all more : List (Unvisited K)) (found : Found K) (v : KnownVisit K) (A B : Type 0) → all ≡ old ∷ ds → more ≡ inner ∷ new ∷ ds → found ≡ Entered v inner
+    → (A → B × IsNextFound t old new found) → (vs : List Visit) → (B → IsLeft t more vs) → A → IsLeft t all (visit_of v ∷ vs)
 entered_next t old new inner ds all more found v A B is later entered goes_on vs left a =
-    subst (λ us. IsLeft t us (v ∷ vs)) (sym is) (entered_left t old new inner ds v vs (subst (IsNextFound t old new) entered (goes_on a).1) (subst (λ us. IsLeft t us vs) later (left (goes_on a).0)))
+    subst (λ us. IsLeft t us (visit_of v ∷ vs)) (sym is) (entered_left t old new inner ds v vs (subst (IsNextFound t old new) entered (goes_on a).1) (subst (λ us. IsLeft t us vs) later (left (goes_on a).0)))
 
 -- ---- the beginning
 

@@ -6,7 +6,7 @@ use Rattle.svnpath.specs.{PathLaws.under_append, Paths.{is_at_or_under, PathValu
 use Rattle.repo_api.specs.{Trees.{is_directory_there, Tree}, declared.entry.Entry.Entry}
 use Rattle.drive_rules.specs.Places.{is_in_directory}
 use Rattle.drive_rules.proofs.Joined.{or_left, and_both}
-use Rattle.reporter.specs.{declared.visit.Visit.Visit, declared.visit.Visit.TheVariants.{Delete, Close}}
+use Rattle.reporter.specs.{Visits.Visit, Visits.Visit.{Delete, Close}}
 use Rattle.reporter.specs.{Nesting.{after_entry_visit, after_visit, walk, AreNested, entry_visits, stands_as}, Walks.{IsChild, goes, going, deletes_of}}
 
 no_some : {X : Type 0} (x : X) → ◌≡◌ {A = Option X} None (Some x) → ⊥

@@ -9,7 +9,7 @@ use Rattle.drive_rules.specs.{Drives.{created_revision, Differs, IsInBoth, IsOfO
 use Rattle.drive_rules.specs.Steps.{may_change, Node, node_at, node_of, Step}
 use Rattle.drive_rules.proofs.Joined.{or_cases, or_left, or_right, or_false, and_front, reach_named, joined, nothing, none_some}
 use Rattle.drive_rules.proofs.Entries.{rescoped, under_more, below_under, IsCut, cut, kept, left_out}
-use Rattle.reporter.specs.{declared.visit.Visit.Visit, declared.visit.Visit.TheVariants.{Open, Delete, Close}, Nesting.entry_visits}
+use Rattle.reporter.specs.{Visits.Visit, Visits.Visit.{Open, Delete, Close}, Nesting.entry_visits}
 use Rattle.reporter.specs.{Visits.{plan_steps, visit_steps}, Walks.{any_under, BothHold, LeadsOver, AreDisjoint, IsChild, AreChildren, AreAll, goes, going}}
 use Rattle.reporter.specs.Walks.{without_all, old_side, left_of, deletes_of}
 use Rattle.reporter.proofs.Visiting.{false_or, entry_opened}

@@ -6,7 +6,7 @@ use Rattle.svnpath.specs.{PathLaws.under_itself, Paths.{is_at_or_under, PathValu
 use Rattle.repo_api.specs.Trees.{is_directory_there, Tree}
 use Rattle.drive_rules.specs.{Drives.IsRight, Scopes.under, Steps.Step}
 use Rattle.drive_rules.proofs.{Joined.{or_false, reach_named, joined, nothing}, Entries.{rescoped, under_more}}
-use Rattle.reporter.specs.{declared.visit.Visit.Visit, declared.visit.Visit.TheVariants.{Open, Add}, Left.{IsPlanOf, IsPlanBelow, IsEntry, ArePlansOf}}
+use Rattle.reporter.specs.{Visits.Visit, Visits.Visit.{Open, Add}, Left.{IsPlanOf, IsPlanBelow, IsEntry, ArePlansOf}}
 use Rattle.reporter.specs.{Nesting.{AreNested, entry_visit, entry_visits}, Visits.{IsRightPlan, plan_steps}, Walks.{WalkedTrees, any_under, BothHold}}
 use Rattle.reporter.specs.Walks.{HasReasonAt, IsListed, IsSame, AreDisjoint, IsChild, AreAlike, LeadsOver, goes_at, old_side, left_of, deletes_of}
 use Rattle.reporter.proofs.{Nested.{nested_nothing, nested_append, nested_deletes, nested_entry, child_inside}, Planning.{any_more, reseated, left_under}}

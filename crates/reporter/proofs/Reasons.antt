@@ -6,7 +6,7 @@ use Rattle.std.specs.Prelude.{IsSome, is_some}
 use Rattle.svnpath.specs.{PathLaws.{under_append, under_is, under_itself}, Paths.{is_at_or_under, PathValue}}
 use Rattle.repo_api.specs.{Trees.Tree, declared.entry.Entry.Entry}
 use Rattle.drive_rules.proofs.{Entries.{no_length, under_more}, Joined.or_cases}
-use Rattle.reporter.specs.{declared.known_path.KnownPath.KnownPath, declared.visit.Visit.TheVariants.Delete, Knowing.paths_of, Left.{IsPlanBelow, IsSilent, ArePlansOf}}
+use Rattle.reporter.specs.{declared.known_path.KnownPath.KnownPath, Visits.Visit.Delete, Knowing.paths_of, Left.{IsPlanBelow, IsSilent, ArePlansOf}}
 use Rattle.reporter.specs.Walks.{WalkedTrees, HasReasonAt, IsChild, IsDue, IsListed, AreAlike, goes, goes_at, going}
 use Rattle.reporter.proofs.{Planning.{goes_why, one_side, same_length}, Plans.{below_directory, plans_append, absent, alike as all_alike}}
 

@@ -7,7 +7,7 @@ use Rattle.repo_api.specs.{Trees.{is_directory, is_directory_content, is_directo
 use Rattle.drive_rules.specs.{Drives.{created_revision, HasReason, IsInBoth, IsOfOneKind, IsRight}, Scopes.{below, under}}
 use Rattle.drive_rules.specs.Steps.{is_named, is_of_kind, Node, node_at, node_of, Step}
 use Rattle.drive_rules.proofs.{Joined.{or_left, nothing}, Entries.{around, opened, fresh, below_under, no_length, under_more}}
-use Rattle.reporter.specs.{declared.visit.Visit.Visit, declared.visit.Visit.TheVariants.{Open, Add, Delete, Close}, Nesting.AreNested}
+use Rattle.reporter.specs.{Visits.Visit, Visits.Visit.{Open, Add, Delete, Close}, Nesting.AreNested}
 use Rattle.reporter.specs.{Visits.{kind_if, entry_kind, plan_steps}, Walks.{old_side, IsNeeded, LeadsOver}}
 use Rattle.reporter.proofs.Nested.{nested_opens}
 

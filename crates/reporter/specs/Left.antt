@@ -1,10 +1,10 @@
 -- What is left to be visited.
-use Rattle.std.specs.Prelude.{◌≡◌, Bool, true, false, ◌||◌, List, [], ◌∷◌, ◌++◌}
+use Rattle.std.specs.Prelude.{◌≡◌, Bool, true, false, ◌||◌, List, [], ◌∷◌, ◌++◌, map}
 use Rattle.svnpath.specs.Paths.{PathValue}
 use Rattle.drive_rules.specs.{Places.is_in_directory, Scopes.{below, under}}
-use Rattle.reporter.specs.{Knowing.paths_of, Nesting.{AreNested, entry_visit, entry_visits}, Visits.IsRightPlan, Walks.{WalkedTrees, BothHold, deletes_of, goes_at, old_side}}
+use Rattle.reporter.specs.{Knowing.visit_of, Nesting.{AreNested, entry_visit, entry_visits}, Visits.IsRightPlan, Walks.{WalkedTrees, BothHold, deletes_of, goes_at, old_side}}
 use Rattle.reporter.specs.{declared.unvisited.Found.Found, declared.unvisited.Found.TheVariants.{Nothing, Single, Entered}}
-use Rattle.reporter.specs.{declared.unvisited.Unvisited.Unvisited, declared.visit.Visit.Visit, declared.visit.Visit.TheVariants.{Close, Open}}
+use Rattle.reporter.specs.{declared.unvisited.Unvisited.Unvisited, Visits.Visit, Visits.Visit.{Close, Delete, Open}}
 
 -- ---- plans
 
@@ -63,17 +63,11 @@ AreVisitsOf t anew ps vs =
     (later : List Visit) × (vs ≡ deletes_of anew t.apart t.old t.new ps ++ later)
     × ArePlansOf t anew ps later
 
--- what is to be said of these paths is to be said of those that were kept of them, and no more
-pub record IsEnough (t : WalkedTrees) (ps kept : List PathValue) : Type 0 where
-  pub deletes : deletes_of false t.apart t.old t.new kept
-      ≡ deletes_of false t.apart t.old t.new ps
-  pub plans : (vs : List Visit) → ArePlansOf t false kept vs → ArePlansOf t false ps vs
-
 -- these may be the visits of what is left in a directory
 abbrev pub IsLeftIn : {K : Type 0} → WalkedTrees → Unvisited K → List Visit → Type 0
 IsLeftIn t d vs =
-    (later : List Visit) × (vs ≡ d.deletes.items ++ later)
-    × ArePlansOf t d.is_anew (paths_of d.entries.items) later
+    (later : List Visit) × (vs ≡ map Delete d.deletes.items ++ later)
+    × ArePlansOf t d.is_anew d.entries.items later
 
 -- the visits behind those of a directory, which is closed, unless no other is open around it
 abbrev pub behind : {K : Type 0} → List (Unvisited K) → List Visit → List Visit
@@ -90,9 +84,9 @@ IsLeft t (d ∷ ds) vs =
 -- these may be the visits of what was found next, with those below it
 abbrev pub IsFound : {K : Type 0} → WalkedTrees → Found K → List Visit → Type 0
 IsFound t Nothing vs = vs ≡ []
-IsFound t (Single v) vs = vs ≡ v ∷ []
+IsFound t (Single v) vs = vs ≡ visit_of v ∷ []
 IsFound t (Entered v d) vs =
-    (rest : List Visit) × (vs ≡ v ∷ (rest ++ Close ∷ [])) × IsLeftIn t d rest
+    (rest : List Visit) × (vs ≡ visit_of v ∷ (rest ++ Close ∷ [])) × IsLeftIn t d rest
 
 -- what was found comes next in a directory; where nothing was found, nothing was left
 pub record IsNextFound {K : Type 0} (t : WalkedTrees) (old new : Unvisited K) (found : Found K)

@@ -3,7 +3,7 @@ use Rattle.std.specs.Prelude.{◌≡◌, Bool, true, false, not, ◌&&◌, if◌
 use Rattle.svnpath.specs.Paths.{PathValue}
 use Rattle.repo_api.specs.{Trees.{is_directory, Tree}, declared.entry.Entry.Entry}
 use Rattle.drive_rules.specs.Places.{is_in_directory}
-use Rattle.reporter.specs.{declared.visit.Visit.Visit, declared.visit.Visit.TheVariants.{Open, Add, Delete, Close}}
+use Rattle.reporter.specs.{Visits.Visit, Visits.Visit.{Open, Add, Delete, Close}}
 
 -- an entry stands there as a directory, or as a file
 abbrev pub stands_as : Bool → Option Entry → Bool

@@ -1,6 +1,6 @@
 -- What a visitor has left.
 use Rattle.std.specs.Prelude.{◌≡◌, List, [], ◌∷◌, Option, MatchOption}
-use Rattle.reporter.specs.{Left.IsLeft, Remembered.Remembers, Walks.WalkedTrees, declared.unvisited.Unvisited.Unvisited, declared.visit.Visit.Visit, declared.visitor.Visitor.Visitor}
+use Rattle.reporter.specs.{Left.IsLeft, Remembered.Remembers, Walks.WalkedTrees, declared.unvisited.Unvisited.Unvisited, Visits.Visit, declared.visitor.Visitor.Visitor}
 
 -- these may be the visits that a visitor has left, if what it remembers is so
 abbrev pub MayVisit : {K : Type 0} → WalkedTrees → Visitor K → List Visit → Type 0

@@ -3,7 +3,14 @@ use Rattle.std.specs.Prelude.{Bool, true, false, List, [], ◌∷◌, ◌++◌, 
 use Rattle.svnpath.specs.Paths.{PathValue}
 use Rattle.repo_api.specs.{Trees.{is_directory_there, Tree}, declared.entry.Entry.Entry}
 use Rattle.drive_rules.specs.{Drives.IsRight, Steps.{EntryKind, Node, Step}, Steps.EntryKind.{DirectoryKind, FileKind}, Steps.Step.{AddAt, DeleteAt, OpenAt}}
-use Rattle.reporter.specs.{declared.visit.Visit.Visit, declared.visit.Visit.TheVariants.{Open, Add, Delete, Close}}
+
+-- What a drive does at a path: an entry is opened or added, as a directory or else a file, or it is
+-- deleted; or the innermost directory that is open is closed.
+pub data Visit : Type 0 where
+  Open : PathValue → Bool → Visit
+  Add : PathValue → Bool → Visit
+  Delete : PathValue → Visit
+  Close : Visit
 
 -- the kind of a directory, or of a file
 abbrev pub kind_if : Bool → EntryKind
@@ -20,10 +27,10 @@ OwnSteps = PathValue → Bool → List Step
 
 -- an entry is opened or added, and then told what is its own; a close says no step
 abbrev pub visit_steps : OwnSteps → Visit → List Step
-visit_steps own (Open p directory) = OpenAt p (kind_if directory) ∷ own p false
-visit_steps own (Add p directory) = AddAt p (kind_if directory) ∷ own p true
-visit_steps own (Delete p) = DeleteAt p ∷ []
-visit_steps own Close = []
+visit_steps own (Visit.Open p directory) = OpenAt p (kind_if directory) ∷ own p false
+visit_steps own (Visit.Add p directory) = AddAt p (kind_if directory) ∷ own p true
+visit_steps own (Visit.Delete p) = DeleteAt p ∷ []
+visit_steps own Visit.Close = []
 
 -- the steps of all visits, in their order
 abbrev pub plan_steps : OwnSteps → List Visit → List Step

@@ -5,7 +5,7 @@ use Rattle.svnpath.specs.Paths.{Component, is_at_or_under, PathValue}
 use Rattle.repo_api.specs.{Kinds.kind_of, Trees.{HasFile, is_directory_there, Tree}, declared.entry.Entry.Entry}
 use Rattle.drive_rules.specs.{Drives.{content_at, created_revision, Differs, HasReason, IsInBoth, IsOfOneKind}, Scopes.{below, HoldsTogether, tree_without}}
 use Rattle.drive_rules.specs.Steps.{after_steps, all_meet, empty_content, has_step, is_text, IsOwn, no_properties, Node, node_at}
-use Rattle.reporter.specs.{declared.kinds.Kinds.Kinds, declared.visit.Visit.Visit, declared.visit.Visit.TheVariants.Delete, Visits.{OwnSteps, entry_kind}}
+use Rattle.reporter.specs.{declared.kinds.Kinds.Kinds, Visits.{OwnSteps, Visit, entry_kind}, Visits.Visit.Delete}
 
 -- ---- both trees
 
@@ -117,6 +117,19 @@ abbrev pub AreAlike : WalkedTrees → PathValue → Type 0
 AreAlike t p =
     (q : PathValue) → is_at_or_under q p ≡ true
     → (t.old q ≡ t.new q) × (t.due q ≡ false) × (IsInBoth t.old t.new q → t.apart q ≡ false)
+
+-- these are left of the paths: at and under each that is left out all is alike
+abbrev pub LeavesUnlike : WalkedTrees → List PathValue → List PathValue → Type 0
+LeavesUnlike t [] left = left ≡ []
+LeavesUnlike t (p ∷ ps) left =
+    (AreAlike t p × LeavesUnlike t ps left)
+    ⊎ ((rest : List PathValue) × (left ≡ p ∷ rest) × LeavesUnlike t ps rest)
+
+-- the paths are those of what a directory has on either side, but for such that are alike
+pub record AreUnlikeListed (t : WalkedTrees) (p : PathValue) (left : List PathValue) : Type 0 where
+  pub all : List PathValue
+  pub listed : IsListed t p all
+  pub unlike : LeavesUnlike t all left
 
 -- the pairs of entries at both paths are one: on each side all is the same at and under them, the
 -- same is apart, and nothing is due at or under the second

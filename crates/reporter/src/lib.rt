@@ -14,5 +14,5 @@ mod visitor;
 pub use kinds::Kinds;
 pub use known_path::KnownPath;
 pub use sides::Sides;
-pub use visit::Visit;
+pub use visit::KnownVisit;
 pub use visitor::Visitor;

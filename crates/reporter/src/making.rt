@@ -1,8 +1,8 @@
 //! The visits of one directory, made one after another.
-ghost use Rattle.std.specs.Prelude.{◌≡◌, ◌∷◌, [], false, IfOk, List, OnOk};
-ghost use Rattle.reporter.specs.Knowing.{AreKnown, AreLeftKnown, AreSilentKnown, IsFoundKnown, IsKnown, paths_of};
-ghost use Rattle.reporter.specs.{Left.{AreVisitsOf, IsEnough, IsEntry, IsFound, IsLeftIn, IsPlanBelow, IsPlanOf, IsNextFound}, Nesting.entry_visit};
-ghost use Rattle.reporter.specs.{Remembered.IfRemembers, Walks.{deletes_of, MayEnter}, declared.visit.Visit.Visit};
+ghost use Rattle.std.specs.Prelude.{◌≡◌, ◌∷◌, [], false, All, IfOk, List, OnOk};
+ghost use Rattle.reporter.specs.Knowing.{AreKnown, AreLeftKnown, AreSilentKnown, IsFoundKnown, IsKnown, IsReached, IsVisitTo, paths_of, visit_of};
+ghost use Rattle.reporter.specs.{Left.{AreVisitsOf, IsEntry, IsFound, IsLeftIn, IsPlanBelow, IsPlanOf, IsNextFound}, Nesting.entry_visit};
+ghost use Rattle.reporter.specs.{Remembered.IfRemembers, Visits.Visit, Walks.{going, MayEnter}};
 
 use crate::kinds::{goes, is_added};
 use crate::known_path::KnownPath;
@@ -10,92 +10,80 @@ use crate::memory::Memory;
 use crate::searching::has_news;
 use crate::sides::Sides;
 use crate::unvisited::{Found, Unvisited};
-use crate::visit::Visit;
+use crate::visit::KnownVisit;
 use std::alloc::{AllocError, Global};
 use std::collections::VecDeque;
 use svnpath::Path;
 
-/// Makes the visits of what goes among these paths.
-fn deletes_of<S: Sides>(
+/// Finds what goes among these paths.
+fn going_among<S: Sides>(
     alloc: Global,
     sides: &S,
     places: &[KnownPath<S::Known>],
-) -> Result<Vec<Visit>, AllocError>
+) -> Result<Vec<Path>, AllocError>
     requires { AreKnown (S.knows sides.now) places.now }
-    ensures { IfOk result (λ v. v.items
-        ≡ deletes_of false (S.trees sides.now).apart (S.trees sides.now).old
+    ensures { IfOk result (λ v. v.items ≡ going (S.trees sides.now).apart (S.trees sides.now).old
         (S.trees sides.now).new (paths_of places.now)) }
 {
-    let mut visits = Vec::new(alloc);
+    let mut paths = Vec::new(alloc);
     for place in places {
         if goes(sides.kinds(alloc, place)?) {
-            visits.push(Visit::Delete(place.path.clone()?))?;
+            paths.push(place.path.clone()?)?;
         }
     }
-    Ok(visits)
+    Ok(paths)
 }
 
-/// Keeps those of these paths at and under which not all is the same.
-fn unlike_among<S: Sides>(
-    alloc: Global,
-    sides: &S,
-    places: Vec<KnownPath<S::Known>>,
-) -> Result<Vec<KnownPath<S::Known>>, AllocError>
-    requires { AreKnown (S.knows sides.now) places.items }
-    ensures enough { IfOk result (λ kept. IsEnough (S.trees sides.now) (paths_of places.items)
-        (paths_of kept.items)) }
-    ensures known { IfOk result (λ kept. AreKnown (S.knows sides.now) kept.items) }
+/// Gives the paths alone.
+fn paths_of<K: Drop>(alloc: Global, places: Vec<KnownPath<K>>) -> Result<VecDeque<Path>, AllocError>
+    ensures { IfOk result (λ paths. paths.items ≡ paths_of places.items) }
 {
-    let mut kept = Vec::new(alloc);
+    let mut paths = VecDeque::new(alloc);
     let mut left = VecDeque::from_vec(places);
     while let Some(place) = left.pop_front() {
-        if !sides.is_alike(alloc, &place)? {
-            kept.push(place)?;
-        }
+        paths.push_back(place.into_path())?;
     }
-    Ok(kept)
+    Ok(paths)
 }
 
-/// Finds what is to be visited of these paths where their directory stays: what goes, and then each entry.
+/// Finds what is to be visited of these paths, which are this one or in it and stay with it: what goes, and then each entry.
 fn unvisited_staying<S: Sides>(
     alloc: Global,
     sides: &S,
+    from: &KnownPath<S::Known>,
     places: Vec<KnownPath<S::Known>>,
 ) -> Result<Unvisited<S::Known>, AllocError>
-    requires { AreKnown (S.knows sides.now) places.items }
+    requires from { IsKnown (S.knows sides.now) from.now }
+    requires near { All (IsReached from.now.path) (paths_of places.items) }
+    requires known { AreKnown (S.knows sides.now) places.items }
     ensures left { IfOk result (λ here. (vs : List Visit) → IsLeftIn (S.trees sides.now) here vs
         → AreVisitsOf (S.trees sides.now) false (paths_of places.items) vs) }
     ensures known { IfOk result (AreLeftKnown (S.knows sides.now)) }
 {
-    let kept = unlike_among(alloc, sides, places)?;
-    let deletes = deletes_of(alloc, sides, &kept)?;
+    let deletes = going_among(alloc, sides, &places)?;
+    let entries = paths_of(alloc, places)?;
+    let from = sides.copied(from)?;
     Ok(Unvisited {
+        from,
         deletes: VecDeque::from_vec(deletes),
-        entries: VecDeque::from_vec(kept),
+        entries,
         is_anew: false,
     })
 }
 
-/// Finds what is to be visited of these paths: what goes, and then each entry.
-fn unvisited_among<S: Sides>(
+/// Finds what is to be visited below a directory that stays: what goes, and then each entry.
+fn unvisited_below_staying<S: Sides>(
     alloc: Global,
     sides: &S,
-    places: Vec<KnownPath<S::Known>>,
-    is_anew: bool,
+    place: &KnownPath<S::Known>,
 ) -> Result<Unvisited<S::Known>, AllocError>
-    requires { AreKnown (S.knows sides.now) places.items }
-    ensures left { IfOk result (λ here. (vs : List Visit) → IsLeftIn (S.trees sides.now) here vs
-        → AreVisitsOf (S.trees sides.now) is_anew (paths_of places.items) vs) }
+    requires { IsKnown (S.knows sides.now) place.now }
+    ensures left { IfOk result (λ below. (vs : List Visit) → IsLeftIn (S.trees sides.now) below vs
+        → IsPlanBelow (S.trees sides.now) false place.now.path vs) }
     ensures known { IfOk result (AreLeftKnown (S.knows sides.now)) }
 {
-    if !is_anew {
-        return unvisited_staying(alloc, sides, places);
-    }
-    Ok(Unvisited {
-        deletes: VecDeque::new(alloc),
-        entries: VecDeque::from_vec(places),
-        is_anew,
-    })
+    let children = sides.unlike_children(alloc, place)?;
+    unvisited_staying(alloc, sides, place, children)
 }
 
 /// Finds what is to be visited of the top of a drive alone.
@@ -107,9 +95,11 @@ pub(crate) fn unvisited_top<S: Sides>(
         → AreVisitsOf (S.trees sides.now) false (S.start sides.now ∷ []) vs) }
     ensures known { IfOk result (AreLeftKnown (S.knows sides.now)) }
 {
+    let top = sides.top(alloc)?;
+    let copy = sides.copied(&top)?;
     let mut places = Vec::new(alloc);
-    places.push(sides.top(alloc)?)?;
-    unvisited_among(alloc, sides, places, false)
+    places.push(copy)?;
+    unvisited_staying(alloc, sides, &top, places)
 }
 
 /// Finds what is to be visited below a directory: what goes, and then each entry.
@@ -124,18 +114,34 @@ pub(crate) fn unvisited_below<S: Sides>(
         → IsPlanBelow (S.trees sides.now) is_anew place.now.path vs) }
     ensures known { IfOk result (AreLeftKnown (S.knows sides.now)) }
 {
+    if !is_anew {
+        return unvisited_below_staying(alloc, sides, place);
+    }
     let children = sides.children(alloc, place)?;
-    unvisited_among(alloc, sides, children, is_anew)
+    let from = sides.copied(place)?;
+    Ok(Unvisited {
+        from,
+        deletes: VecDeque::new(alloc),
+        entries: VecDeque::from_vec(children),
+        is_anew,
+    })
 }
 
 /// Makes the visit that enters an entry: it is opened, or comes anew.
-fn entry_visit(path: Path, is_anew: bool, is_directory: bool) -> Visit
-    ensures { result ≡ entry_visit is_anew is_directory path }
+fn entry_visit<K: Drop>(place: KnownPath<K>, is_anew: bool, is_directory: bool) -> KnownVisit<K>
+    ensures visit { visit_of result ≡ entry_visit is_anew is_directory place.path }
+    ensures place { IsVisitTo place result }
 {
     if is_anew {
-        Visit::Add { path, is_directory }
+        KnownVisit::Add {
+            place,
+            is_directory,
+        }
     } else {
-        Visit::Open { path, is_directory }
+        KnownVisit::Open {
+            place,
+            is_directory,
+        }
     }
 }
 
@@ -154,11 +160,11 @@ fn entered<S: Sides>(
     ensures known { IfOk result (IsFoundKnown (S.knows sides.now)) }
 {
     if !is_directory {
-        let visit = entry_visit(place.into_path(), is_anew, is_directory);
+        let visit = entry_visit(place, is_anew, is_directory);
         return Ok(Found::Single(visit));
     }
     let below = unvisited_below(alloc, sides, &place, is_anew)?;
-    let visit = entry_visit(place.into_path(), is_anew, is_directory);
+    let visit = entry_visit(place, is_anew, is_directory);
     Ok(Found::Entered(visit, below))
 }
 
@@ -208,8 +214,8 @@ pub(crate) fn next_found<S: Sides>(
     ensures left { OnOk result (AreLeftKnown (S.knows sides.now) here.new) }
     ensures held { OnOk result (AreSilentKnown (S.knows sides.now) memory.new) }
 {
-    if let Some(visit) = here.deletes.pop_front() {
-        return Ok(Found::Single(visit));
+    if let Some(path) = here.deletes.pop_front() {
+        return Ok(Found::Single(KnownVisit::Delete(path)));
     }
     next_entry(alloc, sides, memory, here)
 }
@@ -230,7 +236,8 @@ fn next_entry<S: Sides>(
     ensures left { OnOk result (AreLeftKnown (S.knows sides.now) here.new) }
     ensures held { OnOk result (AreSilentKnown (S.knows sides.now) memory.new) }
 {
-    while let Some(place) = here.entries.pop_front() {
+    while let Some(path) = here.entries.pop_front() {
+        let place = sides.reached(alloc, &here.from, path)?;
         let found = found_at(alloc, sides, memory, place, here.is_anew)?;
         if !found.is_nothing() {
             return Ok(found);

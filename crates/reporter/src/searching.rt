@@ -24,9 +24,6 @@ fn is_named<S: Sides>(
         (IsSilent (S.trees sides.now) place.now.path))) }
     ensures held { OnOk result (AreSilentKnown (S.knows sides.now) memory.new) }
 {
-    if sides.is_alike(alloc, place)? {
-        return Ok(false);
-    }
     let kinds = sides.kinds(alloc, place)?;
     if !kinds.new.is_present() {
         return memory.note_news(&place.path, goes(kinds));
@@ -115,7 +112,7 @@ fn has_news_below<S: Sides>(
         (IsSilent (S.trees sides.now) place.now.path))) }
     ensures held { OnOk result (AreSilentKnown (S.knows sides.now) memory.new) }
 {
-    let children = sides.children(alloc, place)?;
+    let children = sides.unlike_children(alloc, place)?;
     for child in &children {
         if is_named(alloc, sides, memory, child)? {
             return Ok(true);

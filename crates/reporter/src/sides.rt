@@ -1,12 +1,13 @@
 //! Two trees side by side.
 ghost use Rattle.std.specs.Prelude.{◌≡◌, ℕ, true, IfOk, MatchBool};
 ghost use Rattle.svnpath.specs.Paths.{PathValue};
-ghost use Rattle.reporter.specs.Knowing.{AreKnown, IsKnown, IsKnownAt, paths_of};
-ghost use Rattle.reporter.specs.Walks.{WalkedTrees, IsSame, IsSamePair, IsShorter, AreAlike, LeadsOver, AreKindsAt, IsListed, IsDue};
+ghost use Rattle.reporter.specs.Knowing.{AreKnown, IsKnown, IsKnownAt, IsReached, paths_of};
+ghost use Rattle.reporter.specs.Walks.{WalkedTrees, IsSame, IsSamePair, IsShorter, AreUnlikeListed, LeadsOver, AreKindsAt, IsListed, IsDue};
 
 use crate::kinds::Kinds;
 use crate::known_path::KnownPath;
 use std::alloc::{AllocError, Global};
+use svnpath::Path;
 
 /// Two trees side by side: what the client has, and what it is to have.
 pub trait Sides {
@@ -39,21 +40,36 @@ pub trait Sides {
         requires { IsKnown (knows self.now) place.now }
         ensures { IfOk result (AreKindsAt (trees self.now) place.now.path) };
 
-    /// Gives the paths of what a directory has on either side, each with what is known of it.
+    /// Gives the paths of what a directory has on either side.
     fn children(
+        &self,
+        alloc: Global,
+        place: &KnownPath<Self::Known>,
+    ) -> Result<Vec<Path>, AllocError>
+        requires { IsKnown (knows self.now) place.now }
+        ensures { IfOk result (λ v. IsListed (trees self.now) place.now.path v.items) };
+
+    /// Finds what is known of a path that is this one or in it.
+    fn reached(
+        &self,
+        alloc: Global,
+        from: &KnownPath<Self::Known>,
+        path: Path,
+    ) -> Result<KnownPath<Self::Known>, AllocError>
+        requires known { IsKnown (knows self.now) from.now }
+        requires near { IsReached from.now.path path }
+        ensures { IfOk result (IsKnownAt (knows self.now) path) };
+
+    /// Gives the paths of what a directory has on either side, but for such at and under which all is the same, with nothing
+    /// due or apart, each with what is known of it. One too many is always right, and makes the walk longer.
+    fn unlike_children(
         &self,
         alloc: Global,
         place: &KnownPath<Self::Known>,
     ) -> Result<Vec<KnownPath<Self::Known>>, AllocError>
         requires { IsKnown (knows self.now) place.now }
-        ensures listed { IfOk result (λ v. IsListed (trees self.now) place.now.path (paths_of v.items)) }
+        ensures listed { IfOk result (λ v. AreUnlikeListed (trees self.now) place.now.path (paths_of v.items)) }
         ensures known { IfOk result (λ v. AreKnown (knows self.now) v.items) };
-
-    /// Says whether all is the same at the path and under it, with nothing due or apart. A false answer
-    /// is always right, and makes the walk longer.
-    fn is_alike(&self, alloc: Global, place: &KnownPath<Self::Known>) -> Result<bool, AllocError>
-        requires { IsKnown (knows self.now) place.now }
-        ensures { IfOk result (λ alike. alike ≡ true → AreAlike (trees self.now) place.now.path) };
 
     /// Gives a number to look up the pair of entries at a path by, or `None` if it is not one to be remembered. Nothing
     /// but the time of a walk rests on it.

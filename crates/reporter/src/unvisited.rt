@@ -2,15 +2,18 @@
 ghost use Rattle.std.specs.Prelude.{◌≡◌, Decides};
 
 use crate::known_path::KnownPath;
-use crate::visit::Visit;
+use crate::visit::KnownVisit;
 use std::collections::VecDeque;
+use svnpath::Path;
 
 /// What is not visited yet in a directory: what goes, and then the entries that stand in it on
-/// either side. Where the directory comes anew, so does each entry.
+/// either side. Where the directory comes anew, so does each entry. What is known of an entry is found when it is visited,
+/// from what is known of the path in front.
 #[derive(Drop)]
 pub struct Unvisited<K: Drop> {
-    pub(crate) deletes: VecDeque<Visit>,
-    pub(crate) entries: VecDeque<KnownPath<K>>,
+    pub(crate) from: KnownPath<K>,
+    pub(crate) deletes: VecDeque<Path>,
+    pub(crate) entries: VecDeque<Path>,
     pub(crate) is_anew: bool,
 }
 
@@ -19,8 +22,8 @@ pub struct Unvisited<K: Drop> {
 #[derive(Drop)]
 pub(crate) enum Found<K: Drop> {
     Nothing,
-    Single(Visit),
-    Entered(Visit, Unvisited<K>),
+    Single(KnownVisit<K>),
+    Entered(KnownVisit<K>, Unvisited<K>),
 }
 
 impl<K: Drop> Found<K> {

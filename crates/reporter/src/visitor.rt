@@ -3,7 +3,7 @@ use crate::making::{next_found, unvisited_below, unvisited_top};
 use crate::memory::Memory;
 use crate::sides::Sides;
 use crate::unvisited::{Found, Unvisited};
-use crate::visit::Visit;
+use crate::visit::KnownVisit;
 use std::alloc::{AllocError, Global};
 use std::collections::VecDeque;
 
@@ -22,9 +22,9 @@ impl<K: Drop> Drop for Visitor<K> {
 }
 
 impl<K: Drop> Visitor<K> {
-    ghost use Rattle.std.specs.Prelude.{◌≡◌, ◌∷◌, [], false, IfOk, List, MatchOption, OnOk};
+    ghost use Rattle.std.specs.Prelude.{◌≡◌, ◌∷◌, [], false, IfOk, IfSome, List, MatchOption, OnOk, option_map};
     ghost use Rattle.repo_api.specs.Trees.{HasDirectory};
-    ghost use Rattle.reporter.specs.{Knowing.{AreLeftKnown, HoldsKnown}, Left.{behind, IsRootPlan, IsTopPlan}, Visiting.{MayVisit, IsNew, IsNext}, declared.visit.Visit.Visit};
+    ghost use Rattle.reporter.specs.{Knowing.{AreLeftKnown, HoldsKnown, IsVisitKnown, visit_of}, Left.{behind, IsRootPlan, IsTopPlan}, Visiting.{MayVisit, IsNew, IsNext}, Visits.Visit, declared.visit.KnownVisit.TheVariants.Close};
 
     /// Makes the visits of a drive of the whole tree: what it does below the root, which is opened
     /// before.
@@ -64,7 +64,7 @@ impl<K: Drop> Visitor<K> {
         })
     }
 
-    /// Gives the next visit. After the last there is none, and after an error none is to be asked
+    /// Gives the next visit, with what is known of the path of an entry that it enters. After the last there is none, and after an error none is to be asked
     /// for. The two sides are those that the visitor was made for.
     ///
     /// # Errors
@@ -74,9 +74,11 @@ impl<K: Drop> Visitor<K> {
         &mut self,
         alloc: Global,
         sides: &S,
-    ) -> Result<Option<Visit>, AllocError>
+    ) -> Result<Option<KnownVisit<K>>, AllocError>
         requires { HoldsKnown (S.knows sides.now) self.old }
-        ensures next { IfOk result (IsNext (S.trees sides.now) self.old self.new) }
+        ensures next { IfOk result (λ found. IsNext (S.trees sides.now) self.old self.new
+            (option_map visit_of found)) }
+        ensures visit { IfOk result (λ found. IfSome found (IsVisitKnown (S.knows sides.now))) }
         ensures known { OnOk result (HoldsKnown (S.knows sides.now) self.new) }
     {
         let Some(mut here) = self.open.pop_front() else {
@@ -97,14 +99,15 @@ impl<K: Drop> Visitor<K> {
     }
 
     /// Gives the visit that closes a directory, unless it was the last.
-    fn closed(&self) -> Option<Visit>
-        ensures { MatchOption result (self.now.open.items ≡ []) (λ visit. (vs : List Visit)
-            → behind self.now.open.items vs ≡ visit ∷ vs) }
+    fn closed(&self) -> Option<KnownVisit<K>>
+        ensures end { MatchOption result (self.now.open.items ≡ []) (λ visit. (vs : List Visit)
+            → behind self.now.open.items vs ≡ visit_of visit ∷ vs) }
+        ensures close { IfSome result (λ visit. visit ≡ Close) }
     {
         if self.open.is_empty() {
             None
         } else {
-            Some(Visit::Close)
+            Some(KnownVisit::Close)
         }
     }
 }

@@ -9,7 +9,7 @@ use Rattle.repo_api.specs.declared.fault.ChangeFault.{ChangeFault}
 use Rattle.repo_api.specs.declared.fault.ChangeFault.TheVariants as faults
 use Rattle.refusals.specs.declared.Refusal.{Refusal}
 use Rattle.access.specs.{Changing.{ChangesAt, IsHalt, ReleasesAfter, ReplacesAt, wants_release}, Handed.IsHandedIn, Points.{content_of, Point}}
-use Rattle.access.specs.{declared.access.Released.Released, declared.access.Released.TheVariants.{Settled, NoMemory, StoreFailed}}
+use Rattle.access.specs.{Refused.IfRefusal, declared.access.Released.Released, declared.access.Released.TheVariants.{Settled, NoMemory, StoreFailed}}
 use Rattle.access.specs.declared.handed.Handed.{Handed}
 use Rattle.published.specs.{Changes.IsRight, Moments.{added, shared_rules}}
 use Rattle.published.specs.Files.{Kept}
@@ -49,6 +49,20 @@ commit_fails p q refusal e Made (faults.Refused r) running none s = absurd s
 commit_fails p q refusal e Made faults.StoreFailed running none s = (running, none, s)
 commit_fails p q refusal e Made faults.Halted running none s = inr (running, none, s)
 commit_fails p q refusal e Made faults.NoMemory running none s = s
+
+-- which is then no refusal
+pub unsaved_unrefused : (p q : Point) (e : Accepted) (P : Type 0) (fault : ChangeFault) → SettlesTo e p (Err fault) q → IfRefusal fault P
+unsaved_unrefused p q e P (faults.Refused r) s = absurd s
+unsaved_unrefused p q e P faults.StoreFailed s = tt
+unsaved_unrefused p q e P faults.Halted s = tt
+unsaved_unrefused p q e P faults.NoMemory s = tt
+
+-- nor is why a change was not begun
+pub unbegun_unrefused : {S : Type 0} (kept : S → Kept) (k : Standing S) (P : Type 0) (fault : ChangeFault) → NotBegun kept fault k → IfRefusal fault P
+unbegun_unrefused kept k P (faults.Refused r) why = absurd why
+unbegun_unrefused kept k P faults.StoreFailed why = tt
+unbegun_unrefused kept k P faults.Halted why = tt
+unbegun_unrefused kept k P faults.NoMemory why = tt
 
 module _ {S : Type 0} (kept : S → Kept) (stands : S → List RepoState → Type 0) (k : Standing S) (n : ℕ) (steady : IsSteady kept stands k) where
   -- a change that was not begun

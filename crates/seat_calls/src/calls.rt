@@ -1,13 +1,13 @@
 //! The changes that a keeper makes for a seat.
 ghost use Rattle.std.specs.Prelude.{◌≡◌, [], ◌∷◌};
-ghost use Rattle.access.specs.{Changing.{ChangesPropertyAt, CommitsAt, LocksAt, UnlocksAt}, Points.content_of};
+ghost use Rattle.access.specs.{Changing.{ChangesPropertyAt, CommitsAt, LocksAt, UnlocksAt}, Points.content_of, Refused.{HasPath, without_path}};
 ghost use Rattle.published.specs.{Events.point_of, Moments.shared_rules};
-ghost use Rattle.repo_api.specs.{Accepted.Accepted.{ChangesProperty, Commits, Locks, Releases, Unlocks}, Transactions.MayCommit};
+ghost use Rattle.repo_api.specs.{Accepted.Accepted.{ChangesProperty, Commits, Locks, Releases, Unlocks}, Commits.IsRefusedAt, Transactions.MayCommit};
 ghost use Rattle.keepers.specs.Standing.{IsSteady, StopLeaves};
 ghost use Rattle.seat_calls.specs.Calls.{Calls};
 
 use crate::changes::{make_commit, make_lock, make_property, make_unlock};
-use access::Committed;
+use access::{Committed, NotCommitted};
 use archives::Archive;
 use keepers::{Keeper, Seat};
 use left_right::Absorb;
@@ -31,7 +31,7 @@ fn turns_away<
 }
 
 /// Makes the transaction the next revision, and then, unless the locks are to stay, releases those of
-/// the user's that were handed in.
+/// the user's that were handed in. A refusal comes with a path at which the commit is refused, if it is at one.
 pub fn commit<
     R: Repository,
     S: Archive<R>,
@@ -45,21 +45,29 @@ pub fn commit<
     seat: &mut Seat<R, J, T>,
     ask: CommitAsk,
     txn: R::Txn,
-) -> Result<Committed, ChangeFault>
+) -> Result<Committed, NotCommitted>
     requires { MayCommit (content_of (point_of seat.old)) (R.txn_state txn) }
-    ensures calls { Calls S.kept S.stands (CommitsAt shared_rules ask (R.txn_state txn)) seat.old keeper.old result
-        seat.new keeper.new }
+    ensures calls { Calls S.kept S.stands (CommitsAt shared_rules ask (R.txn_state txn)) seat.old keeper.old
+        (without_path result) seat.new keeper.new }
+    ensures path { HasPath result
+        (IsRefusedAt (content_of (point_of seat.new)) ask (R.txn_state txn)) }
     ensures steady { IsSteady S.kept S.stands keeper.old }
     ensures stop { StopLeaves S.kept S.leaves (Commits ask (R.txn_state txn) ∷ Releases ask.author ask.tokens ∷ [])
         keeper.old keeper.new }
 {
     if turns_away(keeper, seat) {
         drop((ask, txn));
-        return Err(ChangeFault::Halted);
+        return Err(NotCommitted {
+            fault: ChangeFault::Halted,
+            path: None,
+        });
     }
     if !keeper.meet(seat) {
         drop((ask, txn));
-        return Err(ChangeFault::NoMemory);
+        return Err(NotCommitted {
+            fault: ChangeFault::NoMemory,
+            path: None,
+        });
     }
     let answer = make_commit(keeper, rt, seat, ask, txn);
     let _archive = keeper.archive();

@@ -1,12 +1,14 @@
 //! The changes that a keeper makes: each is made, saved, and published.
 ghost use Rattle.std.specs.Prelude.{◌≡◌, false, true, [], ◌∷◌, None};
 ghost use Rattle.access.specs.{Changing.{ChangesPropertyAt, CommitsAt, LocksAt, ReplacesAt, UnlocksAt}, Points.content_of};
-ghost use Rattle.repo_api.specs.{Accepted.Accepted.{ChangesProperty, Commits, Locks, Releases, Unlocks}, Locking.releases, Transactions.MayCommit};
+ghost use Rattle.access.specs.Refused.{HasPath, without_path};
+ghost use Rattle.repo_api.specs.{Accepted.Accepted.{ChangesProperty, Commits, Locks, Releases, Unlocks}, Commits.IsRefusedAt};
+ghost use Rattle.repo_api.specs.{Locking.releases, Transactions.MayCommit};
 ghost use Rattle.published.specs.{Events.knowing, Moments.shared_rules};
 ghost use Rattle.keepers.specs.Standing.{HappensAt, StopLeaves, now_of};
 ghost use Rattle.seat_calls.specs.Releasing.{ReleasesHanded, ReleasesTo, Revises, released_as, releases_of};
 
-use access::{Committed, Handed, Released, handed_locks};
+use access::{Committed, Handed, NotCommitted, Released, handed_locks, refused_commit};
 use archives::Archive;
 use keepers::{Keeper, Seat};
 use left_right::Absorb;
@@ -28,7 +30,8 @@ fn released(answer: Result<(), ChangeFault>) -> Released
     }
 }
 
-/// Makes the transaction the next revision.
+/// Makes the transaction the next revision. A refusal comes with a path at which the commit is refused, if it is at
+/// one.
 fn make_revision<
     R: Repository,
     S: Archive<R>,
@@ -42,10 +45,13 @@ fn make_revision<
     seat: &mut Seat<R, J, T>,
     ask: CommitAsk,
     txn: R::Txn,
-) -> Result<u64, ChangeFault>
+) -> Result<u64, NotCommitted>
     requires met { seat.old ≡ knowing seat.old.number keeper.old.list }
     requires may { MayCommit (content_of (now_of seat.old.number keeper.old)) (R.txn_state txn) }
-    ensures point { HappensAt (Revises ask (R.txn_state txn)) seat.old.number keeper.old result keeper.new }
+    ensures point { HappensAt (Revises ask (R.txn_state txn)) seat.old.number keeper.old
+        (without_path result) keeper.new }
+    ensures path { HasPath result
+        (IsRefusedAt (content_of (now_of seat.old.number keeper.new)) ask (R.txn_state txn)) }
     ensures told { seat.new ≡ knowing seat.old.number keeper.new.list }
     ensures stop { StopLeaves S.kept S.leaves (Commits ask (R.txn_state txn) ∷ []) keeper.old keeper.new }
 {
@@ -53,20 +59,23 @@ fn make_revision<
     match keeper.readiness() {
         Err(fault) => {
             drop((ask, txn));
-            Err(fault)
+            Err(NotCommitted { fault, path: None })
         }
         Ok(()) => {
             let asked = AskedChange::Commit(Noted::of(&ask), Noted::of(&txn));
-            match keeper.archive().committed(ask, txn) {
+            match keeper.archive().committed(&ask, &txn) {
                 Err(fault) => {
                     drop(asked);
-                    Err(fault)
+                    let refused = refused_commit(keeper.repository(), &ask, &txn, fault);
+                    drop((ask, txn));
+                    Err(refused)
                 }
                 Ok(made) => {
+                    drop((ask, txn));
                     let revision = made.0.youngest();
                     match keeper.settle(rt, seat, made, asked) {
                         Ok(()) => Ok(revision),
-                        Err(fault) => Err(fault),
+                        Err(fault) => Err(NotCommitted { fault, path: None }),
                     }
                 }
             }
@@ -179,10 +188,13 @@ pub(crate) fn make_commit<
     seat: &mut Seat<R, J, T>,
     ask: CommitAsk,
     txn: R::Txn,
-) -> Result<Committed, ChangeFault>
+) -> Result<Committed, NotCommitted>
     requires met { seat.old ≡ knowing seat.old.number keeper.old.list }
     requires may { MayCommit (content_of (now_of seat.old.number keeper.old)) (R.txn_state txn) }
-    ensures point { HappensAt (CommitsAt shared_rules ask (R.txn_state txn)) seat.old.number keeper.old result keeper.new }
+    ensures point { HappensAt (CommitsAt shared_rules ask (R.txn_state txn)) seat.old.number keeper.old
+        (without_path result) keeper.new }
+    ensures path { HasPath result
+        (IsRefusedAt (content_of (now_of seat.old.number keeper.new)) ask (R.txn_state txn)) }
     ensures told { seat.new ≡ knowing seat.old.number keeper.new.list }
     ensures stop { StopLeaves S.kept S.leaves (Commits ask (R.txn_state txn) ∷ Releases ask.author ask.tokens ∷ []) keeper.old keeper.new }
 {
@@ -190,12 +202,15 @@ pub(crate) fn make_commit<
     match handed_locks(&ask) {
         Err(AllocError) => {
             drop((ask, txn));
-            Err(ChangeFault::NoMemory)
+            Err(NotCommitted {
+                fault: ChangeFault::NoMemory,
+                path: None,
+            })
         }
         Ok(handed) => match make_revision(keeper, rt, seat, ask, txn) {
-            Err(fault) => {
+            Err(refused) => {
                 drop(handed);
-                Err(fault)
+                Err(refused)
             }
             Ok(revision) => {
                 let _archive = keeper.archive();

@@ -47,7 +47,10 @@ pub(crate) fn commit_of<A: RepoAccess<View = V>, V: SoundTrees>(
     let view = access.look().expect(rt, "a look");
     view.trees_are_sound();
     let txn = begin(alloc, view).expect(rt, "a transaction");
-    access.commit(ask, txn)
+    match access.commit(ask, txn) {
+        Ok(made) => Ok(made),
+        Err(refused) => Err(refused.fault),
+    }
 }
 
 /// Makes an empty commit that hands no lock in, and answers the number of its revision.

@@ -45,9 +45,9 @@ fn end_refused<R: Repository, S: ReplySink>(
     turn: &mut Turn<S>,
 ) -> Result<SessionPhase<R>, AllocError>
     ensures { Answered result S.writes turn.old turn.new
-        (says turn.old.env Phase.Ended (Reply.Failure refusal ∷ [])) }
+        (says turn.old.env Phase.Ended (Reply.Failure refusal None ∷ [])) }
 {
-    say_new(Reply::Failure(refusal), &mut turn.out)?;
+    say_new(Reply::Failure(refusal, None), &mut turn.out)?;
     Ok(Phase::Ended)
 }
 

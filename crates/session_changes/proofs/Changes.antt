@@ -1,6 +1,6 @@
 -- The steps of a lock and of an unlock.
 use Rattle.std.proofs.Common.{◌≡◌, Bool, refl, sym, subst, inl, inr}
-use Rattle.std.specs.Prelude.{◌⊎◌, Result, Ok, Err}
+use Rattle.std.specs.Prelude.{◌⊎◌, None, Result, Ok, Err}
 use Rattle.dates.specs.Dates.{IsDateText}
 use Rattle.svnpath.specs.{Paths.PathValue, declared.fault.PathFault.PathFault, declared.fault.PathFault.TheVariants.NoMemory}
 use Rattle.refusals.specs.Refusing.{path_refusal}
@@ -30,15 +30,15 @@ module _ (env : Env) (client : Client) where
 
   -- a path that is none
   pub lock_refused : (command : LockCommand) (found : Result PathValue PathFault) (fault : PathFault) → found ≡ Err fault → (halts : Bool) (c : RepoState)
-      → LockingStep env client command found halts c (serves env client (replies.Failure (path_refusal fault)))
+      → LockingStep env client command found halts c (serves env client (replies.Failure (path_refusal fault) None))
   lock_refused command found fault is halts c =
-      let said = serves env client (replies.Failure (path_refusal fault)) in
+      let said = serves env client (replies.Failure (path_refusal fault) None) in
       subst (λ (f : Result PathValue PathFault). LockingStep env client command f halts c said) (sym is) refl
 
   pub unlock_refused : (command : UnlockCommand) (found : Result PathValue PathFault) (fault : PathFault) → found ≡ Err fault → (halts : Bool) (c : RepoState)
-      → UnlockStep env client command found halts c (serves env client (replies.Failure (path_refusal fault)))
+      → UnlockStep env client command found halts c (serves env client (replies.Failure (path_refusal fault) None))
   unlock_refused command found fault is halts c =
-      let said = serves env client (replies.Failure (path_refusal fault)) in
+      let said = serves env client (replies.Failure (path_refusal fault) None) in
       subst (λ (f : Result PathValue PathFault). UnlockStep env client command f halts c said) (sym is) refl
 
 -- what is known of a fault that is not want of memory

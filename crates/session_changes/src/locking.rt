@@ -1,7 +1,9 @@
 //! A path of the repository is locked.
+ghost use Rattle.std.specs.Prelude.{Some, option_map};
 ghost use Rattle.svnpath.specs.Texts.{joined};
-ghost use Rattle.machine.specs.{Answers.{Behind, behind, serves}, Commands.{env_without_token, is_long_comment, LockingStep, LockStep}, Steps.{Answered, Stepped}};
-ghost use Rattle.session_replies.specs.Telling.{told_before};
+ghost use Rattle.machine.specs.{Answers.{Behind, behind, serves}, Commands.{env_without_token, is_long_comment, LockingStep, LockStep}};
+ghost use Rattle.machine.specs.Steps.{Answered, AnsweredIfAny, Stepped};
+ghost use Rattle.session_replies.specs.Telling.{fault_answer, told_before};
 ghost use Rattle.session_changes.specs.Asked.{LockAsked};
 
 use crate::asking::{MadeLock, lock_asked_for, made_lock};
@@ -9,7 +11,7 @@ use access::RepoAccess;
 use commands::LockCommand;
 use machine::{Client, Turn, is_long_comment};
 use refusals::{Refusal, path_refusal};
-use repo_api::{LockAsk, Repository};
+use repo_api::{ChangeFault, LockAsk, Repository};
 use session_replies::{Preface, SessionPhase, refuse, tell, tell_fault};
 use std::alloc::AllocError;
 use std::mem::drop;
@@ -31,6 +33,23 @@ fn tell_lock<R: Repository, S: ReplySink>(
     tell(client, preface, Ok(Reply::Lock(path, lock)), turn)
 }
 
+/// Tells that a lock was not made, and why.
+fn tell_unmade<R: Repository, S: ReplySink>(
+    client: Client,
+    preface: Preface,
+    made: MadeLock,
+    fault: ChangeFault,
+    turn: &mut Turn<S>,
+) -> Result<SessionPhase<R>, AllocError>
+    ensures { AnsweredIfAny result S.writes turn.old turn.new
+        (option_map (behind (told_before preface))
+        (fault_answer turn.old.env client (Some made.path) fault)) }
+{
+    let MadeLock { path, lock } = made;
+    drop(lock);
+    tell_fault(client, Some(path), preface, fault, turn)
+}
+
 /// Asks for a lock. What is told of it is made before, so that nothing but the writing can fail
 /// once it is made.
 fn ask_lock<R: Repository, A: RepoAccess<View = R>, S: ReplySink>(
@@ -46,10 +65,7 @@ fn ask_lock<R: Repository, A: RepoAccess<View = R>, S: ReplySink>(
     match made_lock(turn.alloc, &ask) {
         Ok(made) => match access.lock(ask) {
             Ok(()) => tell_lock(client, preface, made, turn),
-            Err(fault) => {
-                drop(made);
-                tell_fault(client, preface, fault, turn)
-            }
+            Err(fault) => tell_unmade(client, preface, made, fault, turn),
         },
         Err(error) => {
             drop(client);

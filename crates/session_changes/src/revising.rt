@@ -24,7 +24,7 @@ fn ask_change<R: Repository, A: RepoAccess<View = R>, S: ReplySink>(
 {
     match access.change_property(ask) {
         Ok(()) => tell(client, preface, Ok(Reply::Success), turn),
-        Err(fault) => tell_fault(client, preface, fault, turn),
+        Err(fault) => tell_fault(client, None, preface, fault, turn),
     }
 }
 

@@ -1,7 +1,8 @@
 //! A path of the repository is unlocked.
+ghost use Rattle.std.specs.Prelude.{Some, option_map};
 ghost use Rattle.svnpath.specs.Texts.{joined};
-ghost use Rattle.machine.specs.{Answers.Behind, Commands.UnlockStep, Steps.Stepped};
-ghost use Rattle.session_replies.specs.Telling.{told_before};
+ghost use Rattle.machine.specs.{Answers.{Behind, behind}, Commands.UnlockStep, Steps.{AnsweredIfAny, Stepped}};
+ghost use Rattle.session_replies.specs.Telling.{fault_answer, told_before};
 ghost use Rattle.session_changes.specs.Asked.{UnlockAsked};
 
 use crate::asking::unlock_asked_for;
@@ -9,27 +10,53 @@ use access::RepoAccess;
 use commands::UnlockCommand;
 use machine::{Client, Turn};
 use refusals::path_refusal;
-use repo_api::{Repository, UnlockAsk};
+use repo_api::{ChangeFault, Repository, UnlockAsk};
 use session_replies::{Preface, SessionPhase, refuse, tell, tell_fault};
 use std::alloc::AllocError;
 use std::mem::drop;
 use svnpath::PathFault;
 use wire_replies::{Reply, ReplySink};
 
+/// Tells that a lock was not taken away, and why.
+fn tell_unmade<R: Repository, S: ReplySink>(
+    client: Client,
+    preface: Preface,
+    ask: UnlockAsk,
+    fault: ChangeFault,
+    turn: &mut Turn<S>,
+) -> Result<SessionPhase<R>, AllocError>
+    ensures { AnsweredIfAny result S.writes turn.old turn.new
+        (option_map (behind (told_before preface))
+        (fault_answer turn.old.env client (Some ask.path) fault)) }
+{
+    let UnlockAsk {
+        path,
+        user,
+        token,
+        breaks: _,
+    } = ask;
+    drop(user);
+    drop(token);
+    tell_fault(client, Some(path), preface, fault, turn)
+}
+
 /// Asks for an unlock.
 fn ask_unlock<R: Repository, A: RepoAccess<View = R>, S: ReplySink>(
     client: Client,
-    ask: &UnlockAsk,
+    ask: UnlockAsk,
     preface: Preface,
     access: &mut A,
     turn: &mut Turn<S>,
 ) -> Result<SessionPhase<R>, AllocError>
     ensures { Stepped result S.writes turn.old turn.new A.rules A.point access.old access.new
-        (Behind (told_before preface) (UnlockAsked turn.old.env client ask.now)) }
+        (Behind (told_before preface) (UnlockAsked turn.old.env client ask)) }
 {
-    match access.unlock(ask) {
-        Ok(()) => tell(client, preface, Ok(Reply::Success), turn),
-        Err(fault) => tell_fault(client, preface, fault, turn),
+    match access.unlock(&ask) {
+        Ok(()) => {
+            drop(ask);
+            tell(client, preface, Ok(Reply::Success), turn)
+        }
+        Err(fault) => tell_unmade(client, preface, ask, fault, turn),
     }
 }
 
@@ -46,11 +73,7 @@ pub fn unlock<R: Repository, A: RepoAccess<View = R>, S: ReplySink>(
         (UnlockStep turn.old.env client command.now (joined client.path command.now.path))) }
 {
     match unlock_asked_for(turn.alloc, &client, command) {
-        Ok(ask) => {
-            let phase = ask_unlock(client, &ask, preface, access, turn);
-            drop(ask);
-            phase
-        }
+        Ok(ask) => ask_unlock(client, ask, preface, access, turn),
         Err(fault) => match fault {
             PathFault::NoMemory => {
                 drop(client);

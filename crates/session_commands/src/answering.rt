@@ -1,5 +1,5 @@
 //! Commands, and what is none.
-ghost use Rattle.std.specs.Prelude.{Ok, false};
+ghost use Rattle.std.specs.Prelude.{Ok, None, false};
 ghost use Rattle.items.specs.View.{value_of};
 ghost use Rattle.commands.specs.Commands.{main_command};
 ghost use Rattle.wire_replies.specs.declared.reply.Reply.{Reply};
@@ -26,7 +26,7 @@ fn refuse_unknown<R: Repository, S: ReplySink>(
     turn: &mut Turn<S>,
 ) -> Result<SessionPhase<R>, AllocError>
     ensures { Answered result S.writes turn.old turn.new
-        (serves turn.old.env client (Reply.Failure Refusal.UnknownCommand)) }
+        (serves turn.old.env client (Reply.Failure Refusal.UnknownCommand None)) }
 {
     refuse(client, Preface::Nothing, Refusal::UnknownCommand, turn)
 }

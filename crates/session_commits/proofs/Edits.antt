@@ -2,9 +2,10 @@
 use Rattle.std.proofs.Common.{◌≡◌, ℕ, List, [], ◌∷◌, Bool, true, false, Option, Some, None, refl, sym, ap, subst, inl, inr, length}
 use Rattle.std.specs.Prelude.{Result, Ok, Err, if◌then◌else◌, option_map}
 use Rattle.dates.specs.Dates.{IsDateText}
+use Rattle.svnpath.specs.Paths.{PathValue}
 use Rattle.refusals.specs.declared.Refusal.{Refusal}
 use Rattle.refusals.specs.declared.Refusal.TheVariants as refusals
-use Rattle.repo_api.specs.{Accepted.{Accepted, changed}, Accepted.Accepted.Commits, Commits.{commit_refusal, committed as with_commit}}
+use Rattle.repo_api.specs.{Accepted.{Accepted, changed}, Accepted.Accepted.Commits, Commits.{IsRefusedAt, commit_refusal, committed as with_commit}}
 use Rattle.repo_api.specs.{States.{RepoState, TxnState}, declared.ask.CommitAsk.CommitAsk, declared.fault.ChangeFault.ChangeFault}
 use Rattle.repo_api.specs.declared.fault.ChangeFault.TheVariants as change_faults
 use Rattle.wire_edits.specs.{declared.editing.EditorCommand.EditorCommand, declared.editing.EditorCommand.TheVariants.{TargetRevision, OpenRoot, DeleteEntry}}
@@ -13,9 +14,9 @@ use Rattle.wire_edits.specs.declared.editing.EditorCommand.TheVariants.{ChangeDi
 use Rattle.wire_edits.specs.declared.editing.EditorCommand.TheVariants.{TextDeltaEnd, CloseDirectory, CloseFile, CloseEdit, AbortEdit}
 use Rattle.wire_replies.specs.declared.reply.Reply.TheVariants as replies
 use Rattle.edit_rules.specs.Editor.{finished}
-use Rattle.access.specs.{Changing.{CommitsAt, wants_release}, Points.{AccessRules, content_of, Point}, declared.access.Committed.Committed}
+use Rattle.access.specs.{Changing.{CommitsAt, wants_release}, Points.{AccessRules, content_of, Point}, Refused.IfRefusal, declared.access.Committed.Committed}
 use Rattle.access.specs.{declared.access.Released.Released, declared.access.Released.TheVariants.{Settled, NoMemory, StoreFailed}}
-use Rattle.machine.specs.{Answers.{Answer, behind, change_answer, says, serves, Step}, Answers.Verdict.{NotWritten, Unknown, Written}, Machine.CloseStep}
+use Rattle.machine.specs.{Answers.{Answer, behind, change_answer, refuses, says, Step}, Answers.Verdict.{NotWritten, Unknown, Written}, Machine.CloseStep}
 use Rattle.machine.specs.Machine.{CommandStep, commit_ask, CommitStep, EditingStep, ending_of, IsReleaseOf, MachineEdit, made_answer, Release, release_fails}
 use Rattle.machine.specs.Machine.{unreleased_answer, UnreleasedClose, UnreleasedEnd}
 use Rattle.machine.specs.{Machine.Release.{InDoubt, NotReleased, Released as FreedThere, Stays as StayThere}, Stages.Stage, Steps.EffectAt}
@@ -31,9 +32,9 @@ use Rattle.session_commits.specs.Telling.{commit_answer}
 -- an edit that cannot be committed
 pub closes_by : (rules : AccessRules) (env : Env) (edit : MachineEdit) (p : Point) (r : Refusal) → rules.between p p → finished edit.editor ≡ Err r
     → Leads rules (CloseStep env edit.client edit.asked (finished edit.editor)) p p env
-    (Serving edit.client) (replies.Failure r ∷ [])
+    (Serving edit.client) (replies.Failure r None ∷ [])
 closes_by rules env edit p r stays is =
-    let said = says env (Serving edit.client) (replies.Failure r ∷ []) in
+    let said = says env (Serving edit.client) (replies.Failure r None ∷ []) in
     let step = subst (λ (x : Result TxnState Refusal). CloseStep env edit.client edit.asked x p.halted (content_of p) said) (sym is) refl in
     only_says stays step
 
@@ -139,22 +140,24 @@ module _ {env : Env} {client : Client} {asked : CommitParameters} {date : List �
       a.phase a.replies
   led at a later step_is moves = leads_by a at later step_is moves
 
-  pub not_committed : (fault : ChangeFault) → Came (Err fault) → {E : Type 0} (r : Result Stage E) (env' : Env) (writes : List ℕ → Type 0)
-      → AnsweredIfAnyWith r env' writes (option_map (behind []) (fault_answer env client fault)) → SteppedInPartWith r env' writes rules p q Closes Stays
-  not_committed (change_faults.Refused why) (at, later, (going, refused, stays)) r env' writes said =
-      let a = serves env client (replies.Failure why) in
-      unparted rules Closes Stays p q writes r env' (stepped (led at a later (closes at false (Some why) a going refused refl) (at, refl, stays)) writes r env' said)
-  not_committed change_faults.StoreFailed (at, later, (going, accepted, fails)) r env' writes said =
+  pub not_committed : (fault : ChangeFault) (path : Option PathValue) → Came (Err fault) → IfRefusal fault (IsRefusedAt (content_of q) ask t path)
+      → {E : Type 0} (r : Result Stage E) (env' : Env) (writes : List ℕ → Type 0)
+      → AnsweredIfAnyWith r env' writes (option_map (behind []) (fault_answer env client path fault)) → SteppedInPartWith r env' writes rules p q Closes Stays
+  not_committed (change_faults.Refused why) path (at, later, (going, refused, stays)) place r env' writes said =
+      let a = refuses env client why path in
+      let there = subst (λ (x : Point). IsRefusedAt (content_of x) ask t path) stays place in
+      unparted rules Closes Stays p q writes r env' (stepped (led at a later (closes at false (Some why) a going refused (path, there, refl)) (at, refl, stays)) writes r env' said)
+  not_committed change_faults.StoreFailed path (at, later, (going, accepted, fails)) place r env' writes said =
       let a = change_answer env client (Commits ask t) [] NotWritten in
       unparted rules Closes Stays p q writes r env' (stepped (led at a later (closes at false None a going accepted (NotWritten, refl)) (at, refl, fails)) writes r env' said)
-  not_committed change_faults.Halted (at, later, inl (stopped, stays)) r env' writes said =
-      let a = says env Ended (replies.Failure refusals.StoreFailed ∷ []) in
+  not_committed change_faults.Halted path (at, later, inl (stopped, stays)) place r env' writes said =
+      let a = says env Ended (replies.Failure refusals.StoreFailed None ∷ []) in
       unparted rules Closes Stays p q writes r env' (stepped (led at a later (closes at true (commit_refusal (content_of at) ask t) a stopped refl refl) (at, refl, stays)) writes r env' said)
-  not_committed change_faults.Halted (at, later, inr (going, accepted, halts)) r env' writes said =
+  not_committed change_faults.Halted path (at, later, inr (going, accepted, halts)) place r env' writes said =
       let a = change_answer env client (Commits ask t) [] (Unknown (Commits ask t)) in
       unparted rules Closes Stays p q writes r env' (stepped (led at a later (closes at false None a going accepted (Unknown (Commits ask t), (refl, refl))) (at, refl, halts)) writes r env' said)
-  not_committed change_faults.NoMemory came (Ok phase') env' writes said = absurd said
-  not_committed change_faults.NoMemory came (Err e) env' writes said = inl (not_asked came said)
+  not_committed change_faults.NoMemory path came place (Ok phase') env' writes said = absurd said
+  not_committed change_faults.NoMemory path came place (Err e) env' writes said = inl (not_asked came said)
 
 -- ---- the command that ends an edit by its commit
 

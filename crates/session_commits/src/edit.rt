@@ -252,9 +252,10 @@ fn commit<R: Repository, A: RepoAccess<View = R>, S: ReplySink>(
     match ready_commit(turn.alloc, turn.env.moment, &client, asked) {
         Ok((ask, told)) => match access.commit(ask, txn) {
             Ok(made) => tell_commit(client, made, told, turn),
-            Err(fault) => {
+            Err(refused) => {
                 drop(told);
-                tell_fault(client, Preface::Nothing, fault, turn)
+                let (fault, path) = refused.into_parts();
+                tell_fault(client, path, Preface::Nothing, fault, turn)
             }
         },
         Err(error) => {
@@ -349,7 +350,7 @@ pub fn edit_item<R: Repository, A: RepoAccess<View = R>, S: ReplySink>(
             drop(command);
             phase
         }
-        Err(CommandFault::UnknownName) => give_up(edit, Refusal::UnknownCommand, turn),
+        Err(CommandFault::UnknownName) => give_up(edit, Refusal::UnknownCommand, None, turn),
         Err(CommandFault::BadParameters) => {
             drop(edit);
             end_malformed(turn)

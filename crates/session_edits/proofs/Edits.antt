@@ -1,11 +1,11 @@
 -- The steps of an edit.
-use Rattle.std.proofs.Common.{◌≡◌, [], ◌∷◌, Option, Some, None, refl, sym, subst}
+use Rattle.std.proofs.Common.{◌≡◌, [], ◌∷◌, Option, Some, None, refl, sym, ap, subst}
+use Rattle.svnpath.specs.Paths.{PathValue}
 use Rattle.refusals.specs.declared.Refusal.{Refusal}
 use Rattle.wire_edits.specs.declared.editing.EditorCommand.{EditorCommand}
-use Rattle.wire_replies.specs.declared.reply.Reply.TheVariants as replies
-use Rattle.edit_rules.specs.{Editor.Applies, Edits.EditState, Refusing.edit_refusal}
+use Rattle.edit_rules.specs.{Editor.Applies, Edits.EditState, Refused.refused_at, Refusing.edit_refusal}
 use Rattle.access.specs.Points.{AccessRules, content_of, Point}
-use Rattle.machine.specs.{Answers.says, Machine.{EditStep, gives_up, JudgedEdit, MachineEdit}, Stages.Stage, declared.env.Env.Env}
+use Rattle.machine.specs.{Answers.{failure_at, says}, Machine.{EditStep, gives_up, JudgedEdit, MachineEdit}, Stages.Stage, declared.env.Env.Env}
 use Rattle.machine.specs.declared.phase.Phase.TheVariants.{Editing, Skipping}
 use Rattle.session_replies.proofs.Steps.{Leads, only_says}
 
@@ -20,8 +20,9 @@ module _ (rules : AccessRules) (env : Env) (edit : MachineEdit) (command : Edito
       only_says later judged
 
   -- one that is refused gives the edit up
-  pub ends : (r : Refusal) → edit_refusal (content_of q) edit.editor command ≡ Some r
-      → Leads rules (EditStep env edit command) p q env (Skipping edit.client) (replies.Failure r ∷ [])
-  ends r refused =
-      let judged = subst (λ (o : Option Refusal). JudgedEdit env (content_of q) edit command o (gives_up env edit.client r)) (sym refused) refl in
+  pub ends : (r : Refusal) (path : Option PathValue) → edit_refusal (content_of q) edit.editor command ≡ Some r → path ≡ refused_at edit.editor command r
+      → Leads rules (EditStep env edit command) p q env (Skipping edit.client) (failure_at edit.client.is_of_today r path ∷ [])
+  ends r path refused there =
+      let judged = subst (λ (o : Option Refusal). JudgedEdit env (content_of q) edit command o (gives_up env edit.client r path)) (sym refused)
+      (ap (gives_up env edit.client r) there) in
       only_says later judged

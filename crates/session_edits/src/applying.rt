@@ -1,7 +1,7 @@
 //! The commands of an edit.
 ghost use Rattle.std.specs.Prelude.{◌≡◌, Some, None, MatchResult};
-ghost use Rattle.refusals.specs.Faults.{IfRefusedBy};
-ghost use Rattle.edit_rules.specs.{Editor.{Applies, RestsOn}, Refusing.edit_refusal, Soundness.IsSoundEdit};
+ghost use Rattle.refusals.specs.Faults.{IfRefusedAt};
+ghost use Rattle.edit_rules.specs.{Editor.{Applies, RestsOn}, Refused.refused_at, Refusing.edit_refusal, Soundness.IsSoundEdit};
 ghost use Rattle.access.specs.Points.{content_of};
 ghost use Rattle.machine.specs.{Machine.EditStep, Steps.{Looks, Stepped}};
 
@@ -9,7 +9,7 @@ use crate::giving_up::give_up;
 use access::RepoAccess;
 use editor::CommitEditor;
 use machine::{Phase, Turn};
-use refusals::NotDone;
+use refusals::NotDoneAt;
 use repo_api::Repository;
 use session_replies::{SessionEdit, SessionPhase};
 use std::alloc::AllocError;
@@ -22,13 +22,14 @@ fn apply_now<R: Repository, A: RepoAccess<View = R>>(
     editor: &mut CommitEditor<R>,
     command: &EditorCommand,
     access: &mut A,
-) -> Result<(), NotDone>
+) -> Result<(), NotDoneAt>
     requires rests { RestsOn editor.old (content_of (A.point access.old)) }
     requires sound { IsSoundEdit editor.old }
     ensures { Looks A.rules A.point access.old access.new (λ c. MatchResult result
         (λ _. (edit_refusal c editor.old command.now ≡ None)
         × Applies c editor.old command.now editor.new)
-        (λ fault. IfRefusedBy fault (λ r. edit_refusal c editor.old command.now ≡ Some r))) }
+        (λ fault. IfRefusedAt fault (λ r path. (edit_refusal c editor.old command.now ≡ Some r)
+        × (path ≡ refused_at editor.old command.now r)))) }
 {
     let view = access.look()?;
     editor.apply(command, &view)
@@ -49,8 +50,8 @@ pub fn apply_command<R: Repository, A: RepoAccess<View = R>, S: ReplySink>(
     let mut edit = edit;
     match apply_now(&mut edit.editor, command, access) {
         Ok(()) => Ok(Phase::Editing(edit)),
-        Err(NotDone::Refused(refusal)) => give_up(edit, refusal, turn),
-        Err(NotDone::NoMemory) => {
+        Err(NotDoneAt::Refused(refusal, path)) => give_up(edit, refusal, path, turn),
+        Err(NotDoneAt::NoMemory) => {
             drop(edit);
             Err(AllocError)
         }

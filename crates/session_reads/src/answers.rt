@@ -17,20 +17,20 @@ use machine::{Client, Phase, Turn};
 use repo_api::Repository;
 use session_replies::{Preface, SessionPhase, say_preface, stands};
 use std::alloc::{AllocError, Global};
-use svnpath::Path;
 use wire_replies::{Reply, ReplySink, say_made, say_new};
 
 /// Writes what a command that reads is told of a repository.
 fn say_read<R: Repository, S: ReplySink>(
     alloc: Global,
     view: &R,
-    base: &Path,
+    client: &Client,
     command: &ReadCommand,
     out: &mut S,
 ) -> Result<(), AllocError>
     ensures { Says result (S.writes out.old out.new)
-        (read_replies base.now command.now (R.content view.now)) }
+        (read_replies client.now command.now (R.content view.now)) }
 {
+    let base = &client.path;
     match command {
         ReadCommand::GetLatestRev => say_new(Reply::Revision(view.youngest()), out),
         ReadCommand::CheckPath(path, revision) => {
@@ -39,8 +39,8 @@ fn say_read<R: Repository, S: ReplySink>(
         ReadCommand::RevProplist(revision) => say_rev_proplist(alloc, view, *revision, out),
         ReadCommand::GetLock(path) => say_made(get_lock(alloc, view, base, path), out),
         ReadCommand::GetLocks(path) => say_locks_under(alloc, view, base, path, out),
-        ReadCommand::GetFile(command) => say_file(alloc, view, base, command, out),
-        ReadCommand::GetDir(command) => say_dir(alloc, view, base, command, out),
+        ReadCommand::GetFile(command) => say_file(alloc, view, client, command, out),
+        ReadCommand::GetDir(command) => say_dir(alloc, view, client, command, out),
         ReadCommand::Stat(path, revision) => {
             say_made(stat(alloc, view, base, path, *revision), out)
         }
@@ -48,16 +48,16 @@ fn say_read<R: Repository, S: ReplySink>(
         ReadCommand::RevProp(revision, name) => {
             say_made(rev_prop(view, *revision, name.as_slice()), out)
         }
-        ReadCommand::Log(command) => logs::say_named(alloc, view, base, command, out),
+        ReadCommand::Log(command) => logs::say_named(alloc, view, client, command, out),
         ReadCommand::GetLocations(command) => {
-            locations::say_named(alloc, view, base, command, out)
+            locations::say_named(alloc, view, client, command, out)
         }
     }
 }
 
 /// Looks at the repository, and writes what a command that reads is told, behind what comes before it.
 fn say_read_behind<R: Repository, A: RepoAccess<View = R>, S: ReplySink>(
-    base: &Path,
+    client: &Client,
     command: &ReadCommand,
     preface: Preface,
     access: &mut A,
@@ -65,12 +65,12 @@ fn say_read_behind<R: Repository, A: RepoAccess<View = R>, S: ReplySink>(
 ) -> Result<(), AllocError>
     ensures said { Looks A.rules A.point access.old access.new
         (λ c. Says result (S.writes turn.old.out turn.new.out)
-        (told_before preface ++ read_replies base.now command.now c)) }
+        (told_before preface ++ read_replies client.now command.now c)) }
     ensures env { turn.new.env ≡ turn.old.env }
 {
     let view = access.look()?;
     say_preface(preface, &mut turn.out)?;
-    say_read(turn.alloc, &view, base, command, &mut turn.out)
+    say_read(turn.alloc, &view, client, command, &mut turn.out)
 }
 
 /// Answers a command that reads, over one look at the repository. The next command is awaited.
@@ -84,6 +84,6 @@ pub fn tell_read<R: Repository, A: RepoAccess<View = R>, S: ReplySink>(
     ensures { Stepped result S.writes turn.old turn.new A.rules A.point access.old access.new
         (Behind (told_before preface) (Shows (read_answer turn.old.env client command.now))) }
 {
-    let said = say_read_behind(&client.path, command, preface, access, turn);
+    let said = say_read_behind(&client, command, preface, access, turn);
     stands(Phase::Serving(client), said)
 }

@@ -3,18 +3,20 @@ ghost use Rattle.std.specs.Prelude.{true, ◌∷◌, []};
 ghost use Rattle.svnpath.specs.Texts.{joined};
 ghost use Rattle.repo_api.specs.Kinds.{kind_at};
 ghost use Rattle.items.specs.Print.{row_printed};
-ghost use Rattle.machine.specs.Readings.{directory_at, directory_reply, entries_told, entry_told, place_read};
+ghost use Rattle.machine.specs.Readings.{directory_at, directory_reply, directory_told, entries_told, entry_told, place_read};
 ghost use Rattle.wire_replies.specs.{Made.Makes, Replies.entry_trees, Sinks.{Says, Writes}};
 
+use crate::asked::PlaceAsked;
 use crate::entries::{node_info, shown_properties};
 use crate::places::place_read;
+use crate::refusing::tell_refusal_at;
 use byte_string::ByteString;
 use commands::GetDirCommand;
 use history::Place;
+use machine::Client;
 use refusals::Refusal;
 use repo_api::{NodeKind, Repository};
 use std::alloc::{AllocError, Global};
-use svnpath::Path;
 use wire_replies::{
     NodeInfo, ReplySink, say_directory_end, say_directory_head, say_entry, tell_refusal,
 };
@@ -23,17 +25,22 @@ use wire_replies::{
 pub(crate) fn say_dir<R: Repository, S: ReplySink>(
     alloc: Global,
     view: &R,
-    base: &Path,
+    client: &Client,
     command: &GetDirCommand,
     out: &mut S,
 ) -> Result<(), AllocError>
-    ensures { Says result (S.writes out.old out.new)
-        (directory_reply (R.content view.now) command.now
-        (place_read (R.content view.now) command.now.revision (joined base.now command.now.path))
-        ∷ []) }
+    ensures { let c = R.content view.now in Says result (S.writes out.old out.new)
+        (directory_reply client.now.is_of_today c command.now
+        (place_read c command.now.revision (joined client.now.path command.now.path)) ∷ []) }
 {
-    match place_read(alloc, view, base, &command.path, command.revision)? {
-        Ok(place) => say_dir_at(alloc, view, command, &place, out),
+    match place_read(alloc, view, &client.path, &command.path, command.revision)? {
+        Ok(place) => {
+            let asked = PlaceAsked {
+                place: &place,
+                is_of_today: client.is_of_today,
+            };
+            say_dir_at(alloc, view, command, asked, out)
+        }
         Err(refusal) => tell_refusal(refusal, out),
     }
 }
@@ -43,16 +50,18 @@ fn say_dir_at<R: Repository, S: ReplySink>(
     alloc: Global,
     view: &R,
     command: &GetDirCommand,
-    place: &Place,
+    asked: PlaceAsked<'_>,
     out: &mut S,
 ) -> Result<(), AllocError>
-    ensures { Says result (S.writes out.old out.new)
-        (directory_at (R.content view.now) command.now place.now
-        (kind_at (R.content view.now) place.now.revision place.now.path) ∷ []) }
+    ensures { let c = R.content view.now in let at = asked.entry.place.now in
+        Says result (S.writes out.old out.new) (directory_at asked.entry.is_of_today c command.now
+        at (kind_at c at.revision at.path) ∷ []) }
 {
+    let place = asked.place;
+    let is_of_today = asked.is_of_today;
     match view.kind(place.revision, &place.path) {
-        NodeKind::Absent => tell_refusal(Refusal::NotFound, out),
-        NodeKind::File => tell_refusal(Refusal::NotADirectory, out),
+        NodeKind::Absent => tell_refusal_at(is_of_today, Refusal::NotFound, &place.path, out),
+        NodeKind::File => tell_refusal_at(is_of_today, Refusal::NotADirectory, &place.path, out),
         NodeKind::Directory => say_found(alloc, view, command, place, out),
     }
 }
@@ -66,7 +75,7 @@ fn say_found<R: Repository, S: ReplySink>(
     out: &mut S,
 ) -> Result<(), AllocError>
     ensures { Says result (S.writes out.old out.new)
-        (directory_at (R.content view.now) command.now place.now NodeKind.Directory ∷ []) }
+        (directory_told (R.content view.now) command.now place.now ∷ []) }
 {
     let properties = shown_properties(alloc, view, place, command.wants_properties)?;
     say_directory_head(alloc, place.revision, &properties, out)?;

@@ -28,7 +28,7 @@ pub(crate) fn stat<R: Repository>(
 {
     match place_read(alloc, view, base, path, revision)? {
         Ok(place) => Ok(Reply::Stat(node_found(view, &place)?)),
-        Err(refusal) => Ok(Reply::Failure(refusal)),
+        Err(refusal) => Ok(Reply::Failure(refusal, None)),
     }
 }
 

@@ -5,32 +5,40 @@ ghost use Rattle.repo_api.specs.Kinds.{text_at};
 ghost use Rattle.wire_replies.specs.{Replies.contents, Sinks.Says, declared.reply.Reply.Reply};
 ghost use Rattle.machine.specs.Readings.{file_at, file_replies, file_told, no_file, place_read, text_told};
 
+use crate::asked::PlaceAsked;
 use crate::entries::shown_properties;
 use crate::places::place_read;
+use crate::refusing::tell_refusal_at;
 use byte_string::ByteString;
 use commands::GetFileCommand;
 use history::Place;
+use machine::Client;
 use refusals::Refusal;
 use repo_api::{FileText, NodeKind, Repository};
 use std::alloc::{AllocError, Global};
 use std::mem::drop;
-use svnpath::Path;
 use wire_replies::{FileInfo, Reply, ReplySink, say_contents, say_file_info, tell_refusal};
 
 /// Writes what is told of the file at a path, seen from the path of the client's URL.
 pub(crate) fn say_file<R: Repository, S: ReplySink>(
     alloc: Global,
     view: &R,
-    base: &Path,
+    client: &Client,
     command: &GetFileCommand,
     out: &mut S,
 ) -> Result<(), AllocError>
-    ensures { Says result (S.writes out.old out.new)
-        (file_replies (R.content view.now) command.now
-        (place_read (R.content view.now) command.now.revision (joined base.now command.now.path))) }
+    ensures { let c = R.content view.now in Says result (S.writes out.old out.new)
+        (file_replies client.now.is_of_today c command.now
+        (place_read c command.now.revision (joined client.now.path command.now.path))) }
 {
-    match place_read(alloc, view, base, &command.path, command.revision)? {
-        Ok(place) => say_file_at(alloc, view, command, &place, out),
+    match place_read(alloc, view, &client.path, &command.path, command.revision)? {
+        Ok(place) => {
+            let asked = PlaceAsked {
+                place: &place,
+                is_of_today: client.is_of_today,
+            };
+            say_file_at(alloc, view, command, asked, out)
+        }
         Err(refusal) => tell_refusal(refusal, out),
     }
 }
@@ -41,20 +49,24 @@ fn say_file_at<R: Repository, S: ReplySink>(
     alloc: Global,
     view: &R,
     command: &GetFileCommand,
-    place: &Place,
+    asked: PlaceAsked<'_>,
     out: &mut S,
 ) -> Result<(), AllocError>
-    ensures { Says result (S.writes out.old out.new)
-        (file_at (R.content view.now) command.now place.now
-        (text_at (R.content view.now) place.now.revision place.now.path)) }
+    ensures { let c = R.content view.now in let at = asked.entry.place.now in
+        Says result (S.writes out.old out.new)
+        (file_at asked.entry.is_of_today c command.now at (text_at c at.revision at.path)) }
 {
+    let place = asked.place;
     match view.text(place.revision, &place.path) {
         Some(text) => {
             let told = file_told(alloc, view, command.wants_properties, place, text);
             say_told(alloc, told, out)?;
             say_wanted(command.wants_contents, text, out)
         }
-        None => tell_refusal(no_file(view.kind(place.revision, &place.path)), out),
+        None => {
+            let refusal = no_file(view.kind(place.revision, &place.path));
+            tell_refusal_at(asked.is_of_today, refusal, &place.path, out)
+        }
     }
 }
 

@@ -2,6 +2,7 @@
 #![tactic(auto)]
 
 mod answers;
+mod asked;
 mod directories;
 mod entries;
 mod files;
@@ -13,6 +14,7 @@ mod logs;
 mod paths;
 mod places;
 mod reading;
+mod refusing;
 mod revisions;
 
 pub use answers::tell_read;

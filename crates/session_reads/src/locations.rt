@@ -5,10 +5,12 @@ ghost use Rattle.svnpath.specs.Texts.{joined};
 ghost use Rattle.machine.specs.Histories.{ended, is_to_come, location_told, locations_refusal, locations_replies};
 ghost use Rattle.wire_replies.specs.Sinks.{Says};
 
-use crate::listing::{say_end, say_refused};
+use crate::asked::LocationsAsked;
+use crate::listing::{say_end, say_refused, say_refused_at};
 use crate::paths::{is_there, is_to_come};
 use commands::GetLocationsCommand;
 use history::{Place, locations};
+use machine::Client;
 use refusals::{Refusal, path_refusal};
 use repo_api::Repository;
 use std::alloc::{AllocError, Global};
@@ -69,24 +71,24 @@ fn say_found<S: ReplySink>(found: &[(u64, Path)], out: &mut S) -> Result<(), All
 fn say_locations<R: Repository, S: ReplySink>(
     alloc: Global,
     view: &R,
-    command: &GetLocationsCommand,
+    asked: LocationsAsked<'_>,
     path: Path,
     out: &mut S,
 ) -> Result<(), AllocError>
-    ensures { Says result (S.writes out.old out.new)
-        (locations_replies (R.content view.now) command.now (Ok path)) }
+    ensures { Says result (S.writes out.old out.new) (locations_replies asked.entry.is_of_today
+        (R.content view.now) asked.entry.command.now (Ok path)) }
 {
     let place = Place {
         path,
-        revision: command.peg,
+        revision: asked.command.peg,
     };
-    let revisions = command.revisions.as_slice();
+    let revisions = asked.command.revisions.as_slice();
     match locations_refusal(view, &place, revisions) {
         None => {
             let found = locations(alloc, view, &place, revisions)?;
             say_found(found.as_slice(), out)
         }
-        Some(refusal) => say_refused(refusal, out),
+        Some(refusal) => say_refused_at(asked.is_of_today, refusal, Some(&place.path), out),
     }
 }
 
@@ -94,15 +96,21 @@ fn say_locations<R: Repository, S: ReplySink>(
 pub(crate) fn say_named<R: Repository, S: ReplySink>(
     alloc: Global,
     view: &R,
-    base: &Path,
+    client: &Client,
     command: &GetLocationsCommand,
     out: &mut S,
 ) -> Result<(), AllocError>
-    ensures { Says result (S.writes out.old out.new)
-        (locations_replies (R.content view.now) command.now (joined base.now command.now.path)) }
+    ensures { Says result (S.writes out.old out.new) (locations_replies client.now.is_of_today
+        (R.content view.now) command.now (joined client.now.path command.now.path)) }
 {
-    match base.join(alloc, command.path.as_slice()) {
-        Ok(path) => say_locations(alloc, view, command, path, out),
+    match client.path.join(alloc, command.path.as_slice()) {
+        Ok(path) => {
+            let asked = LocationsAsked {
+                command,
+                is_of_today: client.is_of_today,
+            };
+            say_locations(alloc, view, asked, path, out)
+        }
         Err(PathFault::NoMemory) => Err(AllocError),
         Err(fault) => say_refused(path_refusal(fault), out),
     }

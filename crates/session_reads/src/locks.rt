@@ -25,7 +25,7 @@ pub(crate) fn get_lock<R: Repository>(
     match base.join(alloc, path.as_slice()) {
         Ok(path) => Ok(Reply::Locks(lock_found(alloc, view, &path)?)),
         Err(PathFault::NoMemory) => Err(AllocError),
-        Err(fault) => Ok(Reply::Failure(path_refusal(fault))),
+        Err(fault) => Ok(Reply::Failure(path_refusal(fault), None)),
     }
 }
 

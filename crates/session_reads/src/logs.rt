@@ -1,15 +1,17 @@
 //! The revisions that changed paths. Where one of these fails, a part of what it says was written.
-ghost use Rattle.std.specs.Prelude.{◌≡◌, ◌++◌, ◌∷◌, ℕ, List, [], map, Ok, IfOk};
+ghost use Rattle.std.specs.Prelude.{◌≡◌, ◌++◌, ◌∷◌, ℕ, List, [], map, option_copied, Ok, IfOk};
 ghost use Rattle.repo_api.specs.Histories.{history_of};
 ghost use Rattle.history.specs.Walks.{to_come};
-ghost use Rattle.machine.specs.Histories.{all_joined, ended, log_ask, log_refusal, log_replies, or_youngest, revision_told};
+ghost use Rattle.machine.specs.Histories.{all_joined, ended, first_missing, log_ask, log_refusal, log_replies, or_youngest, revision_told};
 ghost use Rattle.wire_replies.specs.Sinks.{Says};
 
-use crate::listing::{say_end, say_refused};
+use crate::asked::LogAsked;
+use crate::listing::{say_end, say_refused, say_refused_at};
 use crate::log_entries::say_revision;
-use crate::paths::{all_joined, are_there, is_to_come};
+use crate::paths::{all_joined, are_there, is_there, is_to_come};
 use commands::LogCommand;
 use history::{Log, LogAsk};
+use machine::Client;
 use refusals::{Refusal, path_refusal};
 use repo_api::Repository;
 use std::alloc::{AllocError, Global};
@@ -51,6 +53,14 @@ fn log_refusal<R: Repository>(view: &R, ask: LogAsk, paths: &[Path]) -> Option<R
     } else {
         Some(Refusal::NotFound)
     }
+}
+
+/// Finds the first of the paths that is not in the greater of the two revisions of a log.
+fn first_missing<'a, R: Repository>(view: &R, ask: LogAsk, paths: &'a [Path]) -> Option<&'a Path>
+    ensures { option_copied result ≡ first_missing (R.content view.now) ask paths.now }
+{
+    let newest = ask.start.max(ask.end);
+    paths.iter().find(|path| !is_there(view, newest, path))
 }
 
 /// Writes the revisions of a log that are to come, each as it is found.
@@ -113,20 +123,24 @@ fn say_opened<R: Repository, S: ReplySink>(
 fn say_log<R: Repository, S: ReplySink>(
     alloc: Global,
     view: &R,
-    command: &LogCommand,
+    asked: LogAsked<'_>,
     paths: &[Path],
     out: &mut S,
 ) -> Result<(), AllocError>
-    ensures { Says result (S.writes out.old out.new)
-        (log_replies (R.content view.now) command.now (Ok paths.now)) }
+    ensures { Says result (S.writes out.old out.new) (log_replies asked.entry.is_of_today
+        (R.content view.now) asked.entry.command.now (Ok paths.now)) }
 {
+    let command = asked.command;
     let ask = log_ask(view, command);
     match log_refusal(view, ask, paths) {
         None => {
             let log = Log::open(alloc, view, paths, ask);
             say_opened(alloc, view, command.wants_changes, log, out)
         }
-        Some(refusal) => say_refused(refusal, out),
+        Some(refusal) => {
+            let missing = first_missing(view, ask, paths);
+            say_refused_at(asked.is_of_today, refusal, missing, out)
+        }
     }
 }
 
@@ -134,16 +148,20 @@ fn say_log<R: Repository, S: ReplySink>(
 pub(crate) fn say_named<R: Repository, S: ReplySink>(
     alloc: Global,
     view: &R,
-    base: &Path,
+    client: &Client,
     command: &LogCommand,
     out: &mut S,
 ) -> Result<(), AllocError>
-    ensures { Says result (S.writes out.old out.new)
-        (log_replies (R.content view.now) command.now (all_joined base.now command.now.paths)) }
+    ensures { Says result (S.writes out.old out.new) (log_replies client.now.is_of_today
+        (R.content view.now) command.now (all_joined client.now.path command.now.paths)) }
 {
-    match all_joined(alloc, base, command.paths.as_slice()) {
+    match all_joined(alloc, &client.path, command.paths.as_slice()) {
         Ok(paths) => {
-            let said = say_log(alloc, view, command, paths.as_slice(), out);
+            let asked = LogAsked {
+                command,
+                is_of_today: client.is_of_today,
+            };
+            let said = say_log(alloc, view, asked, paths.as_slice(), out);
             drop(paths);
             said
         }

@@ -1,5 +1,5 @@
 //! Replies to commands that read the tree and its revisions.
-ghost use Rattle.std.specs.Prelude.{◌≡◌, ◌∷◌, [], ℕ, Some, MatchOption};
+ghost use Rattle.std.specs.Prelude.{◌≡◌, ◌∷◌, [], ℕ, None, Some, MatchOption};
 ghost use Rattle.svnpath.specs.Texts.{joined};
 ghost use Rattle.repo_api.specs.Kinds.{kind_at, properties_at};
 ghost use Rattle.wire_replies.specs.{Made.Makes, Sinks.Says, declared.reply.Reply.Reply};
@@ -16,7 +16,7 @@ use wire_replies::{Reply, ReplySink, say_new, say_properties, tell_refusal};
 fn known_revision<R: Repository>(view: &R, revision: Option<u64>) -> Option<u64>
     ensures { MatchOption result
         ((f : ℕ → Reply) →
-        at_revision (R.content view.now) revision f ≡ Reply.Failure Refusal.NoSuchRevision)
+        at_revision (R.content view.now) revision f ≡ Reply.Failure Refusal.NoSuchRevision None)
         (λ n. (f : ℕ → Reply) → at_revision (R.content view.now) revision f ≡ f n) }
 {
     let youngest = view.youngest();
@@ -47,10 +47,10 @@ pub(crate) fn check_path<R: Repository>(
     match base.join(alloc, path.as_slice()) {
         Ok(path) => match known_revision(view, revision) {
             Some(n) => Ok(kind_at(view, n, &path)),
-            None => Ok(Reply::Failure(Refusal::NoSuchRevision)),
+            None => Ok(Reply::Failure(Refusal::NoSuchRevision, None)),
         },
         Err(PathFault::NoMemory) => Err(AllocError),
-        Err(fault) => Ok(Reply::Failure(path_refusal(fault))),
+        Err(fault) => Ok(Reply::Failure(path_refusal(fault), None)),
     }
 }
 

@@ -19,7 +19,7 @@ pub(crate) fn get_dated_rev<R: Repository>(view: &R, date: &[u8]) -> Reply
     if is_date_text(date) {
         Reply::Revision(dated_rev(view, date))
     } else {
-        Reply::Failure(Refusal::NotSupported)
+        Reply::Failure(Refusal::NotSupported, None)
     }
 }
 
@@ -33,7 +33,7 @@ pub(crate) fn rev_prop<R: Repository>(
 {
     match revision_read(view, Some(revision)) {
         Ok(n) => Ok(Reply::RevisionProperty(revision_value(view, name, n)?)),
-        Err(refusal) => Ok(Reply::Failure(refusal)),
+        Err(refusal) => Ok(Reply::Failure(refusal, None)),
     }
 }
 

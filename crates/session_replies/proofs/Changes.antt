@@ -8,7 +8,7 @@ use Rattle.repo_api.specs.declared.fault.ChangeFault.TheVariants as change_fault
 use Rattle.wire_replies.specs.declared.reply.Reply.{Reply}
 use Rattle.wire_replies.specs.declared.reply.Reply.TheVariants as replies
 use Rattle.access.specs.{Changing.ReplacesAt, Points.{AccessRules, content_of, Point}}
-use Rattle.machine.specs.{Answers.{Answer, Behind, behind, change_answer, ChangeStep, says, serves, Step, Verdict}, Answers.Verdict.{NotWritten, Unknown, Written}}
+use Rattle.machine.specs.{Answers.{Answer, Behind, behind, change_answer, ChangeStep, failure_at, path_of_change, refuses, says, Step, Verdict}, Answers.Verdict.{NotWritten, Unknown, Written}}
 use Rattle.machine.specs.{Stages.Stage, Steps.{EffectAt, StepAt}, declared.env.Env.Env, declared.phase.Client.Client}
 use Rattle.machine.specs.declared.phase.Phase.TheVariants.{Serving, Ended}
 use Rattle.session_replies.specs.Telling.{fault_answer}
@@ -44,23 +44,24 @@ module _ (refusal : RepoState → Option Refusal) (e : Accepted) (env : Env) (cl
       let a = change_answer env' client e own Written in
       led a at later (judged at false None a going accepted (Written, tt, sym is)) (q, (q, added, refl), refl)
 
-  refused : (r : Refusal) → Came (Err (change_faults.Refused r)) → ChangeLeads env (Serving client) (replies.Failure r ∷ [])
+  refused : (r : Refusal) → Came (Err (change_faults.Refused r))
+      → ChangeLeads env (Serving client) (failure_at client.is_of_today r (path_of_change e) ∷ [])
   refused r (at, later, (going, is_refused, stays)) =
-      let a = serves env client (replies.Failure r) in
+      let a = refuses env client r (path_of_change e) in
       led a at later (judged at false (Some r) a going is_refused refl) (at, refl, stays)
 
   -- one at which the store failed before it had changed anything
   failed : answer NotWritten ≡ change_answer env client e [] NotWritten → Came (Err change_faults.StoreFailed)
-      → ChangeLeads env (Serving client) (replies.Failure refusals.StoreFailed ∷ [])
+      → ChangeLeads env (Serving client) (replies.Failure refusals.StoreFailed None ∷ [])
   failed is (at, later, (going, accepted, fails)) =
       let a = change_answer env client e [] NotWritten in
       led a at later (judged at false None a going accepted (NotWritten, tt, sym is)) (at, refl, fails)
 
   -- one after a halt, or one of which nobody knows whether it is written
   halted : answer (Unknown e) ≡ change_answer env client e [] (Unknown e) → Came (Err change_faults.Halted)
-      → ChangeLeads env Ended (replies.Failure refusals.StoreFailed ∷ [])
+      → ChangeLeads env Ended (replies.Failure refusals.StoreFailed None ∷ [])
   halted is (at, later, inl (stopped, stays)) =
-      let a = says env Ended (replies.Failure refusals.StoreFailed ∷ []) in
+      let a = says env Ended (replies.Failure refusals.StoreFailed None ∷ []) in
       led a at later (judged at true (refusal (content_of at)) a stopped refl refl) (at, refl, stays)
   halted is (at, later, inr (going, accepted, halts)) =
       let a = change_answer env client e [] (Unknown e) in
@@ -70,7 +71,7 @@ module _ (refusal : RepoState → Option Refusal) (e : Accepted) (env : Env) (cl
   pub not_made : {E : Type 0} (fault : ChangeFault) (r : Result Stage E) (env' : Env) (writes : List ℕ → Type 0)
       → answer NotWritten ≡ change_answer env client e [] NotWritten
       → answer (Unknown e) ≡ change_answer env client e [] (Unknown e) → Came (Err fault)
-      → AnsweredIfAnyWith r env' writes (option_map (behind told) (fault_answer env client fault)) → SteppedWith r env' writes rules p q (Behind told Judged)
+      → AnsweredIfAnyWith r env' writes (option_map (behind told) (fault_answer env client (path_of_change e) fault)) → SteppedWith r env' writes rules p q (Behind told Judged)
   not_made (change_faults.Refused why) r env' writes fails halts came said = stepped (refused why came) writes r env' said
   not_made change_faults.StoreFailed r env' writes fails halts came said = stepped (failed fails came) writes r env' said
   not_made change_faults.Halted r env' writes fails halts came said = stepped (halted halts came) writes r env' said

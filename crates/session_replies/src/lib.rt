@@ -7,5 +7,5 @@ mod serving;
 mod turn;
 
 pub use preface::{Preface, say_behind, say_new_behind, say_preface};
-pub use serving::{end_halted, refuse, tell, tell_fault};
+pub use serving::{end_halted, refuse, refuse_at, tell, tell_fault};
 pub use turn::{SessionEdit, SessionPhase, SessionReport, end_malformed, stands};

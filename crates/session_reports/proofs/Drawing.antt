@@ -1,6 +1,6 @@
 -- Where the commands of a report lead.
 use Rattle.std.proofs.Common.{◌≡◌, ℕ, List, [], refl, sym, subst, inl, inr}
-use Rattle.std.specs.Prelude.{Result, Ok, Err, IfOk}
+use Rattle.std.specs.Prelude.{Result, Ok, Err, IfOk, Some}
 use Rattle.refusals.specs.{declared.Refusal.Refusal, declared.fault.NotDone.NotDone}
 use Rattle.repo_api.specs.{Soundness.AreTrees, States.RepoState}
 use Rattle.wire_edits.specs.declared.editing.EditorCommand.{EditorCommand}
@@ -19,7 +19,7 @@ use Rattle.session_reports.specs.Finishing.{IsUnanswered}
 pub drawn_nothing : (env : Env) (client : Client) (d : Drawn) → (drawn_answer env client d).effect ≡ no_effect
 drawn_nothing env client (GoesOn report) = refl
 drawn_nothing env client GivenUp = refl
-drawn_nothing env client (Fails r) = refl
+drawn_nothing env client (Fails r path) = refl
 drawn_nothing env client (Drives drive) = refl
 drawn_nothing env client Malformed = refl
 
@@ -35,8 +35,9 @@ untold rules step p q env phase writes later is nothing (Err e) same = inl (late
 
 -- what is drawn at the end, from what the report comes to
 finishes : (c : RepoState) (report : OpenState) (r : Result ReportRoot Refusal) (d : Drawn) → finish_root c report ≡ r
-    → Finishes c (r >>= (λ root. Ok (whole report root))) d → EndStep report c d
-finishes c report r d is drawn = subst (λ (x : Result ReportRoot Refusal). Finishes c (x >>= (λ root. Ok (whole report root))) d) (sym is) drawn
+    → Finishes c report.ask.goal (r >>= (λ root. Ok (whole report root))) d → EndStep report c d
+finishes c report r d is drawn =
+    subst (λ (x : Result ReportRoot Refusal). Finishes c report.ask.goal (x >>= (λ root. Ok (whole report root))) d) (sym is) drawn
 
 module _ (rules : AccessRules) (env : Env) (client : Client) (report : OpenState) {p q : Point} (later : rules.between p q) (trees : AreTrees (content_of q).revisions) where
   -- a drive
@@ -47,8 +48,10 @@ module _ (rules : AccessRules) (env : Env) (client : Client) (report : OpenState
 
   -- or why there is none
   pub fails : (r : Refusal) → finish_root (content_of q) report ≡ Err r → Draws env client (EndStep report) q.halted (content_of q)
-      (drawn_answer env client (Fails r))
-  fails r is = (Fails r, finishes (content_of q) report (Err r) (Fails r) is refl, refl)
+      (drawn_answer env client (Fails r (Some report.ask.goal)))
+  fails r is =
+      let d = Fails r (Some report.ask.goal) in
+      (d, finishes (content_of q) report (Err r) d is refl, refl)
 
   -- or memory or the sink failed
   pub lost : (writes : List ℕ → Type 0) → IsUnanswered (content_of q) report writes faults.NoMemory → StepOrNothing rules

@@ -1,4 +1,5 @@
 //! The end of a report: a drive, or why there is none.
+ghost use Rattle.std.specs.Prelude.{◌≡◌};
 ghost use Rattle.repo_api.specs.Soundness.{AreSound, AreTrees};
 ghost use Rattle.access.specs.Points.{content_of};
 ghost use Rattle.session_reports.specs.Finishing.{EndsReport};
@@ -15,6 +16,7 @@ use repo_api::Repository;
 use session_replies::SessionPhase;
 use std::alloc::{AllocError, Global};
 use std::mem::drop;
+use svnpath::Path;
 use wire_replies::ReplySink;
 
 /// A report that goes on, and whose it is.
@@ -60,6 +62,19 @@ fn say_drive_now<R: Repository, A: RepoAccess<View = R>, S: ReplySink>(
     }
 }
 
+/// Gives the goal of a report.
+fn goal_of(report: OpenReport<Grafts>) -> Path
+    ensures { result ≡ report.ask.goal }
+{
+    let OpenReport {
+        ask,
+        root: _,
+        grafts,
+    } = report;
+    drop(grafts);
+    ask.into_goal()
+}
+
 /// Ends a report.
 pub(crate) fn finish<R: Repository, A: RepoAccess<View = R>, S: ReplySink>(
     errand: OpenErrand,
@@ -77,8 +92,8 @@ pub(crate) fn finish<R: Repository, A: RepoAccess<View = R>, S: ReplySink>(
             Ok(Phase::Driven(client))
         }
         Err(NotDone::Refused(refusal)) => {
-            drop(report);
-            tell_refused(client, refusal, turn)
+            let goal = goal_of(report);
+            tell_refused(client, refusal, Some(goal), turn)
         }
         Err(NotDone::NoMemory) => {
             drop(report);

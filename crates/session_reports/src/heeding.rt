@@ -1,7 +1,7 @@
 //! The commands of a report that goes on.
 ghost use Rattle.std.specs.Prelude.{◌≡◌, Ok, option_copied};
 ghost use Rattle.repo_api.specs.Soundness.{AreSound};
-ghost use Rattle.drive_reports.specs.Refusing.{delete_path_answer, kept_report, set_path_answer};
+ghost use Rattle.drive_reports.specs.Refusing.{delete_path_report, set_path_report};
 ghost use Rattle.drive_wire.specs.Reporting.{OpenStep};
 ghost use Rattle.access.specs.Points.{content_of};
 ghost use Rattle.machine.specs.{Reports.Draws, Steps.{Stepped, Looks}};
@@ -29,8 +29,8 @@ fn set_path_now<R: Repository, A: RepoAccess<View = R>>(
 ) -> Result<Report<Grafts>, AllocError>
     requires trees { AreSound (content_of (A.point access.old)).revisions }
     ensures { Looks A.rules A.point access.old access.new (λ c. Makes result
-        (kept_report (set_path_answer c name.now report link.entry.reported.now
-        (option_copied link.entry.url)))) }
+        (set_path_report c name.now report link.entry.reported.now
+        (option_copied link.entry.url))) }
 {
     match access.look() {
         Ok(view) => drive_reports::set_path(alloc, &view, name, report, link),
@@ -53,8 +53,8 @@ fn set_path<R: Repository, A: RepoAccess<View = R>>(
     ensures { Looks A.rules A.point access.old access.new (λ c. Makes result
         (Phase.Reporting (record {
           client = errand.client;
-          report = kept_report (set_path_answer c options.now.name errand.report
-              link.entry.reported.now (option_copied link.entry.url));
+          report = set_path_report c options.now.name errand.report link.entry.reported.now
+              (option_copied link.entry.url);
         }))) }
 {
     let OpenErrand { client, report } = errand;
@@ -75,7 +75,7 @@ fn delete_path<R: Repository>(
 ) -> Result<SessionPhase<R>, AllocError>
     ensures { Makes result (Phase.Reporting (record {
       client = errand.client;
-      report = kept_report (delete_path_answer errand.report text.now);
+      report = delete_path_report errand.report text.now;
     })) }
 {
     let OpenErrand { client, report } = errand;

@@ -1,5 +1,5 @@
 //! One item within a report.
-ghost use Rattle.std.specs.Prelude.{◌≡◌};
+ghost use Rattle.std.specs.Prelude.{◌≡◌, None};
 ghost use Rattle.items.specs.View.{value_of};
 ghost use Rattle.repo_api.specs.Soundness.{AreSound};
 ghost use Rattle.wire_reports.specs.Reporting.{report_command};
@@ -25,11 +25,12 @@ use wire_reports::ReportCommand;
 
 /// Refuses a report from now on.
 fn refuse_report<R: Repository>(errand: OpenErrand, refusal: Refusal) -> SessionPhase<R>
-    ensures { result ≡ Reporting (record { client = errand.client; report = Report.Refused refusal }) }
+    ensures { result
+        ≡ Reporting (record { client = errand.client; report = Report.Refused refusal None }) }
 {
     let OpenErrand { client, report } = errand;
     drop(report);
-    refused_phase(client, refusal)
+    refused_phase(client, refusal, None)
 }
 
 /// Takes an item within a report that goes on.
@@ -77,7 +78,7 @@ pub fn report_item<R: Repository, A: RepoAccess<View = R>, S: ReplySink>(
 {
     let (client, report) = reporting.into_parts();
     match report {
-        Report::Refused(refusal) => refused_item(client, refusal, item, turn),
+        Report::Refused(refusal, path) => refused_item(client, refusal, path, item, turn),
         Report::Open(report) => {
             open_report_item(options, OpenErrand { client, report }, item, access, turn)
         }

@@ -1,12 +1,12 @@
 //! The keeper under a lock, by which threads change the repository, each by a seat of its own.
 ghost use Rattle.std.specs.Prelude.{◌≡◌, [], ◌∷◌, IfOk};
-ghost use Rattle.access.specs.{Changing.{ChangesPropertyAt, CommitsAt, LocksAt, UnlocksAt}, Points.content_of};
+ghost use Rattle.access.specs.{Changing.{ChangesPropertyAt, CommitsAt, LocksAt, UnlocksAt}, Points.content_of, Refused.{HasPath, without_path}};
 ghost use Rattle.published.specs.{Events.point_of, Files.MayOpen, Moments.shared_rules};
-ghost use Rattle.repo_api.specs.{Accepted.Accepted.{ChangesProperty, Commits, Locks, Releases, Unlocks}, Transactions.MayCommit};
+ghost use Rattle.repo_api.specs.{Accepted.Accepted.{ChangesProperty, Commits, Locks, Releases, Unlocks}, Commits.IsRefusedAt, Transactions.MayCommit};
 ghost use Rattle.keepers.specs.Standing.{HaveSeenOpening};
 ghost use Rattle.seat_calls.specs.Calls.{Answers, CallsUnderLock};
 
-use access::Committed;
+use access::{Committed, NotCommitted};
 use archives::Archive;
 use keepers::{Keeper, Seat};
 use left_right::Absorb;
@@ -97,18 +97,22 @@ impl<
     }
 
     /// Makes the transaction the next revision, and then, unless the locks are to stay, releases those of
-    /// the user's that were handed in.
+    /// the user's that were handed in. A refusal comes with a path at which the commit is refused, if it is at one.
     pub fn commit<W: Wait>(
         &self,
         rt: &W,
         seat: &mut Seat<R, J, T>,
         ask: CommitAsk,
         txn: R::Txn,
-    ) -> Result<Committed, ChangeFault>
+    ) -> Result<Committed, NotCommitted>
         requires { MayCommit (content_of (point_of seat.old)) (R.txn_state txn) }
-        ensures answers { Answers (CommitsAt shared_rules ask (R.txn_state txn)) seat.old result seat.new }
+        ensures answers { Answers (CommitsAt shared_rules ask (R.txn_state txn)) seat.old
+            (without_path result) seat.new }
+        ensures path { HasPath result
+            (IsRefusedAt (content_of (point_of seat.new)) ask (R.txn_state txn)) }
         ensures lock { CallsUnderLock S.kept S.stands S.leaves (CommitsAt shared_rules ask (R.txn_state txn))
-            (Commits ask (R.txn_state txn) ∷ Releases ask.author ask.tokens ∷ []) seat.old result seat.new }
+            (Commits ask (R.txn_state txn) ∷ Releases ask.author ask.tokens ∷ []) seat.old
+            (without_path result) seat.new }
     {
         let answer = seat_calls::commit(&mut self.keeper.lock(rt), rt, seat, ask, txn);
         self.note(seat);

@@ -1,13 +1,16 @@
 //! A repository in files as a session reaches it.
-ghost use Rattle.std.specs.Prelude.{◌≡◌, [], ◌∷◌, false};
-ghost use Rattle.access.specs.{Changing.{ChangesPropertyAt, CommitsAt, Happens, LocksAt, UnlocksAt}, Handed.IsHandedIn, Sole.sole_rules};
-ghost use Rattle.repo_api.specs.{Accepted.Accepted.{ChangesProperty, Commits, Locks, Releases, Unlocks}, Transactions.MayCommit};
+ghost use Rattle.std.specs.Prelude.{◌≡◌, [], ◌∷◌, Err, false};
+ghost use Rattle.access.specs.{Changing.{ChangesPropertyAt, CommitsAt, Happens, LocksAt, UnlocksAt}, Handed.IsHandedIn, Points.content_of};
+ghost use Rattle.access.specs.{Refused.{HasPath, IfRefusal, without_path}, Sole.sole_rules};
+ghost use Rattle.repo_api.specs.{Accepted.Accepted.{ChangesProperty, Commits, Locks, Releases, Unlocks}, Commits.IsRefusedAt, Transactions.MayCommit};
 ghost use Rattle.store_access.specs.Stored.{StopLeaves, point_of};
 
 use crate::change::{SavedChange, copied};
 use crate::filed::Filed;
 use crate::stored::StoredRepository;
-use access::{Committed, Handed, RepoAccess, SoleAccess, handed_locks};
+use access::{
+    Committed, Handed, NotCommitted, RepoAccess, SoleAccess, handed_locks, refused_commit,
+};
 use repo_api::{ChangeFault, CommitAsk, LockAsk, PropertyAsk, UnlockAsk};
 use std::alloc::AllocError;
 use store_files::Store;
@@ -15,23 +18,35 @@ use store_files::Store;
 impl<F: Filed, S: Store> StoredRepository<F, S> {
     /// Makes the transaction the next revision, and then releases what was handed in with it. A stop at any moment
     /// of the call leaves the files of the repository from before it, with the revision, or without the
-    /// released locks too.
-    pub fn commit_in_files(&mut self, ask: CommitAsk, txn: F::Txn) -> Result<Committed, ChangeFault>
+    /// released locks too. A refusal comes with a path at which the commit is refused, if it is at one.
+    pub fn commit_in_files(
+        &mut self,
+        ask: CommitAsk,
+        txn: F::Txn,
+    ) -> Result<Committed, NotCommitted>
         requires { MayCommit (F.content self.old.repository) (F.txn_state txn) }
-        ensures point { CommitsAt sole_rules ask (F.txn_state txn) (point_of self.old) result
-            (point_of self.new) }
+        ensures point { CommitsAt sole_rules ask (F.txn_state txn) (point_of self.old)
+            (without_path result) (point_of self.new) }
+        ensures path { HasPath result
+            (IsRefusedAt (content_of (point_of self.new)) ask (F.txn_state txn)) }
         ensures stop { StopLeaves (Commits ask (F.txn_state txn) ∷ Releases ask.author ask.tokens ∷ [])
             self.old self.new }
     {
         if self.saves.is_halted() {
             std::mem::drop((ask, txn));
-            return Err(ChangeFault::Halted);
+            return Err(NotCommitted {
+                fault: ChangeFault::Halted,
+                path: None,
+            });
         }
         match handed_locks(&ask) {
             Ok(handed) => self.commit_and_release(ask, txn, handed),
             Err(AllocError) => {
                 std::mem::drop((ask, txn));
-                Err(ChangeFault::NoMemory)
+                Err(NotCommitted {
+                    fault: ChangeFault::NoMemory,
+                    path: None,
+                })
             }
         }
     }
@@ -42,12 +57,14 @@ impl<F: Filed, S: Store> StoredRepository<F, S> {
         ask: CommitAsk,
         txn: F::Txn,
         handed: Option<Handed>,
-    ) -> Result<Committed, ChangeFault>
+    ) -> Result<Committed, NotCommitted>
         requires goes_on { self.old.saves.is_halted ≡ false }
         requires may { MayCommit (F.content self.old.repository) (F.txn_state txn) }
         requires handed_in { IsHandedIn ask handed }
-        ensures point { CommitsAt sole_rules ask (F.txn_state txn) (point_of self.old) result
-            (point_of self.new) }
+        ensures point { CommitsAt sole_rules ask (F.txn_state txn) (point_of self.old)
+            (without_path result) (point_of self.new) }
+        ensures path { HasPath result
+            (IsRefusedAt (content_of (point_of self.new)) ask (F.txn_state txn)) }
         ensures stop { StopLeaves (Commits ask (F.txn_state txn) ∷ Releases ask.author ask.tokens ∷ [])
             self.old self.new }
     {
@@ -60,15 +77,29 @@ impl<F: Filed, S: Store> StoredRepository<F, S> {
                     }),
                     Err(fault) => {
                         std::mem::drop(handed);
-                        Err(fault)
+                        Err(NotCommitted { fault, path: None })
                     }
                 }
             }
             Err(fault) => {
+                let refused = self.refuse_commit(&ask, &txn, fault);
                 std::mem::drop((ask, txn, handed));
-                Err(fault)
+                Err(refused)
             }
         }
+    }
+
+    /// Makes the answer to a commit that was not made, and has changed nothing.
+    fn refuse_commit(&self, ask: &CommitAsk, txn: &F::Txn, fault: ChangeFault) -> NotCommitted
+        requires may { MayCommit (F.content self.now.repository) (F.txn_state txn.now) }
+        requires came { CommitsAt sole_rules ask.now (F.txn_state txn.now) (point_of self.now)
+            (Err fault) (point_of self.now) }
+        ensures point { CommitsAt sole_rules ask.now (F.txn_state txn.now) (point_of self.now)
+            (Err result.fault) (point_of self.now) }
+        ensures path { IfRefusal result.fault (IsRefusedAt (content_of (point_of self.now)) ask.now
+            (F.txn_state txn.now) result.path) }
+    {
+        refused_commit(&self.repository, ask, txn, fault)
     }
 
     /// Locks the path of a file, in place of a lock that stands there if that may be stolen. A stop at any moment of
@@ -154,10 +185,12 @@ impl<F: Filed, S: Store> RepoAccess for StoredRepository<F, S> {
         self.saves.is_halted()
     }
 
-    fn commit(&mut self, ask: CommitAsk, txn: F::Txn) -> Result<Committed, ChangeFault>
+    fn commit(&mut self, ask: CommitAsk, txn: F::Txn) -> Result<Committed, NotCommitted>
         requires { MayCommit (F.content self.old.repository) (F.txn_state txn) }
-        ensures point { Happens sole_rules (CommitsAt sole_rules ask (F.txn_state txn)) (point_of self.old)
-            result (point_of self.new) }
+        ensures change { Happens sole_rules (CommitsAt sole_rules ask (F.txn_state txn))
+            (point_of self.old) (without_path result) (point_of self.new) }
+        ensures path { HasPath result
+            (IsRefusedAt (content_of (point_of self.new)) ask (F.txn_state txn)) }
         ensures stop { StopLeaves (Commits ask (F.txn_state txn) ∷ Releases ask.author ask.tokens ∷ [])
             self.old self.new }
     {

@@ -3,7 +3,7 @@ use Rattle.std.specs.{Prelude.{ℕ, Bool, List, [], ◌∷◌, ◌++◌, Option,
 use Rattle.uuid.specs.Text.{hyphenated_text, lower}
 use Rattle.wire_edits.specs.Printing.{command_item}
 use Rattle.items.specs.{Print.printed, Values.{both, ItemValue, ItemValues, list, more, none, number, only, string, word}, View.row_of}
-use Rattle.refusals.specs.Table.{refusal_number, refusal_text}
+use Rattle.refusals.specs.{Table.{refusal_number, refusal_text}, declared.Refusal.Refusal}
 use Rattle.refusals.specs.declared.Refusal.TheVariants as refusals
 use Rattle.svnpath.specs.{Paths.PathValue, Texts.path_text}
 use Rattle.repo_api.specs.{Properties.PropertyList, declared.change.Action.Action, declared.change.Change.Change, declared.change.Source.Source}
@@ -164,6 +164,11 @@ commit_info revision date author release_fails =
     list (more (number revision) (more (list (only (string date)))
     (both (list (optional_string_trees author)) (list (release_fault release_fails)))))
 
+-- the message of a refusal: its text, and the path at which a command is refused, if that is told
+abbrev pub refusal_message : Refusal → Option PathValue → List ℕ
+refusal_message r None = refusal_text r
+refusal_message r (Some path) = (refusal_text r ++ codes ": ") ++ path_text path
+
 -- what the server can do
 abbrev pub capabilities : ItemValues
 capabilities =
@@ -200,9 +205,9 @@ reply_item (LogEntry entry) = log_entry entry
 reply_item (Location revision path) = location_item revision path
 reply_item (Edit command) = command_item command
 reply_item Done = word (codes "done")
-reply_item (Failure refusal) =
+reply_item (Failure refusal path) =
     failure (only (list (more (number (refusal_number refusal))
-    (more (string (refusal_text refusal)) (both (string []) (number 0))))))
+    (more (string (refusal_message refusal path)) (both (string []) (number 0))))))
 reply_item (Failures links) = failure (link_items links)
 
 -- the bytes of replies

@@ -1,7 +1,8 @@
 //! Replies, as items and as bytes.
 ghost use Rattle.std.specs.Prelude.{◌≡◌, ◌++◌, IfOk, IsOkAnd, OnOk, OnErr, codes};
 ghost use Rattle.items.specs.{Print.{AppendsItem, WritesItem, printed}, Values.{both, list, more, none, only, string, word}, View.{value_of, values_of}};
-ghost use Rattle.wire_replies.specs.Replies.{reply_item, success, failure, mechanism_trees, capabilities, uuid_text, commit_info, release_fault};
+ghost use Rattle.wire_replies.specs.Replies.{reply_item, success, failure, mechanism_trees, capabilities, uuid_text, commit_info, refusal_message};
+ghost use Rattle.wire_replies.specs.Replies.{release_fault};
 
 use crate::build::{list_item, number_item, optional_string_item, string_item, word_item};
 use crate::contents::TextPiece;
@@ -81,8 +82,8 @@ pub enum Reply {
     Edit(EditorCommand),
     /// No further revision of a log comes, or no further location.
     Done,
-    /// The command is refused.
-    Failure(Refusal),
+    /// The command is refused, and the path at which it is, if that is told.
+    Failure(Refusal, Option<Path>),
     /// A failure of these links.
     Failures(FailureLinks),
 }
@@ -113,7 +114,7 @@ impl Drop for Reply {
             Reply::Location(_, _) => {}
             Reply::Edit(_) => {}
             Reply::Done => {}
-            Reply::Failure(_) => {}
+            Reply::Failure(_, _) => {}
             Reply::Failures(_) => {}
         }
     }
@@ -174,7 +175,7 @@ impl Reply {
             ),
             Reply::Edit(command) => write_command(command, out),
             Reply::Done => out.extend_from_slice(b"done "),
-            Reply::Failure(refusal) => write_made(refusal_item(alloc, *refusal), out),
+            Reply::Failure(refusal, path) => write_made(refusal_item(alloc, *refusal, path), out),
             Reply::Failures(links) => write_made(failures_item(alloc, links), out),
         }
     }
@@ -347,15 +348,35 @@ fn release_fault_item(alloc: Global, release_fails: bool) -> Result<Item, AllocE
     }
 }
 
-/// Makes `( failure ( ( number text file line ) ) )`, with an empty file and the line 0.
-fn refusal_item(alloc: Global, refusal: Refusal) -> Result<Item, AllocError>
-    ensures { IfOk result (λ item. value_of item ≡ reply_item (Reply.Failure refusal)) }
+/// Makes the message of a refusal.
+fn message_item(alloc: Global, refusal: Refusal, path: &Option<Path>) -> Result<Item, AllocError>
+    ensures { IfOk result (λ item. value_of item ≡ string (refusal_message refusal path.now)) }
 {
-    let text = string_item(alloc, refusal.text())?;
+    match path {
+        None => string_item(alloc, refusal.text()),
+        Some(path) => {
+            let mut message = Vec::from_slice(alloc, refusal.text())?;
+            message.extend_from_slice(b": ")?;
+            path.append_text(&mut message)?;
+            Ok(Item::Str(ByteString::new(message)))
+        }
+    }
+}
+
+/// Makes `( failure ( ( number message file line ) ) )`, with an empty file and the line 0.
+fn refusal_item(alloc: Global, refusal: Refusal, path: &Option<Path>) -> Result<Item, AllocError>
+    ensures { IfOk result (λ item. value_of item ≡ reply_item (Reply.Failure refusal path.now)) }
+{
+    let message = message_item(alloc, refusal, path)?;
     let place = string_item(alloc, b"")?;
     let fault = list_item(
         alloc,
-        [number_item(refusal.number()), text, place, number_item(0)],
+        [
+            number_item(refusal.number()),
+            message,
+            place,
+            number_item(0),
+        ],
     )?;
     failure_item(alloc, fault)
 }

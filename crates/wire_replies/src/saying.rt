@@ -1,6 +1,6 @@
 //! Replies that are written as they are made. Where one of these fails, a part of what it says was
 //! written.
-ghost use Rattle.std.specs.Prelude.{◌≡◌, ◌∷◌, [], IfOk};
+ghost use Rattle.std.specs.Prelude.{◌≡◌, ◌∷◌, [], IfOk, None};
 ghost use Rattle.items.specs.{Print.printed, Values.ItemValue, View.value_of};
 ghost use Rattle.wire_replies.specs.Sinks.{Says, Writes};
 
@@ -42,11 +42,11 @@ pub fn say_made<S: ReplySink>(
     }
 }
 
-/// Writes a refusal.
+/// Writes a refusal, without a path.
 pub fn tell_refusal<S: ReplySink>(refusal: Refusal, out: &mut S) -> Result<(), AllocError>
-    ensures { Says result (S.writes out.old out.new) (Reply.Failure refusal ∷ []) }
+    ensures { Says result (S.writes out.old out.new) (Reply.Failure refusal None ∷ []) }
 {
-    say_new(Reply::Failure(refusal), out)
+    say_new(Reply::Failure(refusal, None), out)
 }
 
 /// Writes an item that is a part of a reply, if it could be made. If not, nothing is written.

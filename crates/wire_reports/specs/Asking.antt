@@ -1,46 +1,87 @@
 -- What an update, a switch or a status asks for, as the items that spell it.
-use Rattle.std.specs.Prelude.{ℕ, List, Option, Some, None}
-use Rattle.items.specs.Values.{ItemValues, none}
+use Rattle.std.specs.{Prelude.{ℕ, Bool, true, false, List, Option, Some, None}, Option.option_map_or}
+use Rattle.items.specs.Values.{ItemValues, none, more}
 use Rattle.wire_forms.specs.Forms.{◌>>=◌, string_first, flag_first, revision_first}
 use Rattle.wire_reports.specs.{Depths.{depth_first, depth_at_end}, declared.asking.DriveRequest.DriveRequest, declared.depth_word.DepthWord.DepthWord}
 
--- `? depth send-copyfrom`: nothing, or both; no copies are sent, whatever is said of them
-abbrev pub copies_at_end : ItemValues → Option (Option DepthWord)
-copies_at_end none = Some None
-copies_at_end items = do
-  (depth, rest) ← depth_first items
-  _ ← flag_first rest
-  Some (Some depth)
+-- what the first of these items says, if it is the word `true` or `false`, and this otherwise
+abbrev pub flag_or : Bool → ItemValues → Bool
+flag_or otherwise items =
+    option_map_or (λ (first : Bool × ItemValues). first.0) (flag_first items) otherwise
 
--- `( [ rev ] target recurse ? depth send-copyfrom )`
+-- what stands behind the first item, if there is one
+abbrev pub after_first : ItemValues → ItemValues
+after_first none = none
+after_first (more item rest) = rest
+
+-- `? depth send-copyfrom ignore-ancestry`: nothing, or the depth, and whether ancestry is ignored.
+-- No copies are sent, whatever is said of them; where nothing is said of ancestry it counts.
+abbrev pub update_at_end : ItemValues → Option (Option DepthWord × Bool)
+update_at_end none = Some (None, false)
+update_at_end items = do
+  (depth, rest) ← depth_first items
+  (copies, rest) ← flag_first rest
+  Some (Some depth, flag_or false rest)
+
+-- `( [ rev ] target recurse ? depth send-copyfrom ignore-ancestry )`
 abbrev pub update : ItemValues → Option DriveRequest
 update params = do
   (revision, rest) ← revision_first params
   (target, rest) ← string_first rest
   (recurse, rest) ← flag_first rest
-  depth ← copies_at_end rest
-  Some (record { revision = revision; target = target; recurse = recurse; depth = depth })
+  (depth, ignores_ancestry) ← update_at_end rest
+  Some (record {
+    revision = revision;
+    target = target;
+    recurse = recurse;
+    depth = depth;
+    ignores_ancestry = ignores_ancestry;
+  })
 
--- `( [ rev ] target recurse url ? depth )`: what is asked for, and the URL
+-- `? depth send-copyfrom ignore-ancestry`: nothing, or the depth, and whether ancestry is ignored.
+-- A client that says nothing of ancestry ignores it in a switch.
+abbrev pub switch_at_end : ItemValues → Option (Option DepthWord × Bool)
+switch_at_end none = Some (None, true)
+switch_at_end items = do
+  (depth, rest) ← depth_first items
+  Some (Some depth, flag_or true (after_first rest))
+
+-- `( [ rev ] target recurse url ? depth send-copyfrom ignore-ancestry )`: what is asked for, and
+-- the URL
 abbrev pub switch : ItemValues → Option (DriveRequest × List ℕ)
 switch params = do
   (revision, rest) ← revision_first params
   (target, rest) ← string_first rest
   (recurse, rest) ← flag_first rest
   (url, rest) ← string_first rest
-  depth ← depth_at_end rest
-  Some (record { revision = revision; target = target; recurse = recurse; depth = depth }, url)
+  (depth, ignores_ancestry) ← switch_at_end rest
+  Some (
+    record {
+      revision = revision;
+      target = target;
+      recurse = recurse;
+      depth = depth;
+      ignores_ancestry = ignores_ancestry;
+    },
+    url,
+  )
 
 -- `? [ rev ]`: nothing, or a list with a revision, if there is one; and what stands behind it
 abbrev pub revision_behind : ItemValues → Option (Option ℕ × ItemValues)
 revision_behind none = Some (None, none)
 revision_behind items = revision_first items
 
--- `( target recurse ? [ rev ] ? depth )`
+-- `( target recurse ? [ rev ] ? depth )`: ancestry counts
 abbrev pub status : ItemValues → Option DriveRequest
 status params = do
   (target, rest) ← string_first params
   (recurse, rest) ← flag_first rest
   (revision, rest) ← revision_behind rest
   depth ← depth_at_end rest
-  Some (record { revision = revision; target = target; recurse = recurse; depth = depth })
+  Some (record {
+    revision = revision;
+    target = target;
+    recurse = recurse;
+    depth = depth;
+    ignores_ancestry = false;
+  })

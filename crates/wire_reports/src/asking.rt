@@ -2,7 +2,7 @@
 ghost use Rattle.std.specs.Prelude.{◌≡◌, option_map};
 ghost use Rattle.items.specs.View.{values_of};
 ghost use Rattle.wire_forms.specs.Answering.{Reads};
-ghost use Rattle.wire_reports.specs.Asking.{update, switch, status, copies_at_end, revision_behind};
+ghost use Rattle.wire_reports.specs.Asking.{after_first, flag_or, revision_behind, status, switch, switch_at_end, update, update_at_end};
 
 use crate::depth_word::{DepthWord, depth_word};
 use crate::parameters::read_last_depth;
@@ -21,40 +21,77 @@ pub struct DriveRequest {
     /// Whether what is beneath directories is asked for too, where no depth is named.
     pub recurse: bool,
     pub depth: Option<DepthWord>,
+    /// Whether an entry of another line of history may take the place of what the client has.
+    pub ignores_ancestry: bool,
 }
 
-/// Reads `( [ rev ] target recurse ? depth send-copyfrom )`.
+/// Reads `( [ rev ] target recurse ? depth send-copyfrom ignore-ancestry )`.
 pub fn read_update(params: &[Item]) -> Result<DriveRequest, CommandFault>
     ensures { Reads result (update (values_of params.now)) }
 {
     let (revision, rest) = read_revision(params).ok_or(BadParameters)?;
     let (target, rest) = read_string(rest).ok_or(BadParameters)?;
     let (recurse, rest) = read_flag(rest).ok_or(BadParameters)?;
-    let depth = read_depth_and_copies(rest).ok_or(BadParameters)?;
+    let (depth, ignores_ancestry) = read_update_end(rest).ok_or(BadParameters)?;
     Ok(DriveRequest {
         revision,
         target: target.clone()?,
         recurse,
         depth,
+        ignores_ancestry,
     })
 }
 
-/// Reads `? depth send-copyfrom`: the depth, if there is one.
-fn read_depth_and_copies(items: &[Item]) -> Option<Option<DepthWord>>
-    ensures { result ≡ copies_at_end (values_of items.now) }
+/// Gives what the first of these items says, if it is the word `true` or `false`, and another value otherwise.
+fn flag_or(otherwise: bool, items: &[Item]) -> bool
+    ensures { result ≡ flag_or otherwise (values_of items.now) }
+{
+    match read_flag(items) {
+        None => otherwise,
+        Some((flag, _)) => flag,
+    }
+}
+
+/// Gives what comes after the first item, if there is one.
+fn after_first(items: &[Item]) -> &[Item]
+    ensures { values_of result.now ≡ after_first (values_of items.now) }
 {
     match items {
-        [] => Some(None),
+        [] => items,
+        [_, rest @ ..] => rest,
+    }
+}
+
+/// Reads `? depth send-copyfrom ignore-ancestry` of an update: the depth, if there is one, and whether ancestry is ignored.
+fn read_update_end(items: &[Item]) -> Option<(Option<DepthWord>, bool)>
+    ensures { result ≡ update_at_end (values_of items.now) }
+{
+    match items {
+        [] => Some((None, false)),
         [Item::Word(word), rest @ ..] => {
             let depth = depth_word(word.as_bytes())?;
-            read_flag(rest)?;
-            Some(Some(depth))
+            let (_copies, rest) = read_flag(rest)?;
+            Some((Some(depth), flag_or(false, rest)))
         }
         _ => None,
     }
 }
 
-/// Reads `( [ rev ] target recurse url ? depth )`: what is asked for, and the URL.
+/// Reads `? depth send-copyfrom ignore-ancestry` of a switch: the depth, if there is one, and whether ancestry is ignored.
+fn read_switch_end(items: &[Item]) -> Option<(Option<DepthWord>, bool)>
+    ensures { result ≡ switch_at_end (values_of items.now) }
+{
+    match items {
+        [] => Some((None, true)),
+        [Item::Word(word), rest @ ..] => {
+            let depth = depth_word(word.as_bytes())?;
+            Some((Some(depth), flag_or(true, after_first(rest))))
+        }
+        _ => None,
+    }
+}
+
+/// Reads `( [ rev ] target recurse url ? depth send-copyfrom ignore-ancestry )`: what is asked for, and the URL.
 pub fn read_switch(params: &[Item]) -> Result<(DriveRequest, ByteString), CommandFault>
     ensures { Reads result (switch (values_of params.now)) }
 {
@@ -62,7 +99,7 @@ pub fn read_switch(params: &[Item]) -> Result<(DriveRequest, ByteString), Comman
     let (target, rest) = read_string(rest).ok_or(BadParameters)?;
     let (recurse, rest) = read_flag(rest).ok_or(BadParameters)?;
     let (url, rest) = read_string(rest).ok_or(BadParameters)?;
-    let depth = read_last_depth(rest).ok_or(BadParameters)?;
+    let (depth, ignores_ancestry) = read_switch_end(rest).ok_or(BadParameters)?;
     let url = url.clone()?;
     Ok((
         DriveRequest {
@@ -70,6 +107,7 @@ pub fn read_switch(params: &[Item]) -> Result<(DriveRequest, ByteString), Comman
             target: target.clone()?,
             recurse,
             depth,
+            ignores_ancestry,
         },
         url,
     ))
@@ -88,6 +126,7 @@ pub fn read_status(params: &[Item]) -> Result<DriveRequest, CommandFault>
         target: target.clone()?,
         recurse,
         depth,
+        ignores_ancestry: false,
     })
 }
 

@@ -1,8 +1,8 @@
 //! What is held after a commit, and what refuses it.
 ghost use Rattle.std.specs.Prelude.{◌≡◌, ◌<◌, length, IfOk};
-ghost use Rattle.repo_api.specs.{Accepted.IsJudged, Commits.{committed, revision_properties}, Locking.check_refusal};
-ghost use Rattle.held.specs.{Contents.{held_state, revisions_of}, Growing.{HasOneMore, HasRevision}, Maps.Mapped, Sealed.sealed_tree};
-ghost use Rattle.world.specs.{Committing.{IsNextTree, MergesTxn, refusal_in}, Editing.RestsOn, Whole.txn_state_of};
+ghost use Rattle.repo_api.specs.{Accepted.IsJudged, Commits.{committed, IsRefusedAt, revision_properties}, Locking.{check_refusal, refusing_path}};
+ghost use Rattle.held.specs.{Contents.{held_state, revisions_of, state_of}, Growing.{HasOneMore, HasRevision}, Maps.Mapped, Sealed.sealed_tree};
+ghost use Rattle.world.specs.{Committing.{IsConflictFor, IsNextTree, MergesTxn, refusal_in}, Editing.RestsOn, Whole.txn_state_of};
 
 use crate::world_txn::WorldTxn;
 use held::{CommitFault, Held};
@@ -12,6 +12,7 @@ use repo_api::{ChangeFault, CommitAsk, REVISION_LIMIT};
 use revision_data::{TxnChanges, revision_properties};
 use std::alloc::{AllocError, Global};
 use std::sync::Arc;
+use svnpath::Path;
 use txntree::TxnTree;
 
 /// Makes what is held after the commit, if it is accepted.
@@ -79,6 +80,49 @@ fn check_locks(
 {
     let tokens = ask.tokens.as_slice();
     locks.check(alloc, changes.as_map(), ask.author.as_ref(), tokens)
+}
+
+/// Finds a path at which a commit is refused, if it is at one: a path in conflict, or where none is, that of the first
+/// lock in its way that refuses.
+pub(crate) fn refused_at(
+    alloc: Global,
+    held: &Held,
+    locks: &Locks,
+    ask: &CommitAsk,
+    txn: &WorldTxn,
+) -> Result<Option<Path>, AllocError>
+    requires { RestsOn txn.now held.now }
+    ensures { IfOk result (IsRefusedAt (state_of held.now locks.now) ask.now
+        (txn_state_of txn.now)) }
+{
+    let conflict = conflict_in(alloc, held, txn)?;
+    match conflict {
+        Some(path) => Ok(Some(path)),
+        None => refusing_path(alloc, locks, &txn.changes, ask),
+    }
+}
+
+/// Finds a path at which others have changed what the transaction has changed, if there is one.
+fn conflict_in(alloc: Global, held: &Held, txn: &WorldTxn) -> Result<Option<Path>, AllocError>
+    requires { RestsOn txn.now held.now }
+    ensures { IfOk result (IsConflictFor held.now txn.now) }
+{
+    let tree = held.moved(alloc, &txn.shown, &txn.tree, txn.base)?;
+    held.conflict(alloc, txn.base, &tree)
+}
+
+/// Finds the path of the lock that refuses a commit of the changes, if one does.
+fn refusing_path(
+    alloc: Global,
+    locks: &Locks,
+    changes: &TxnChanges,
+    ask: &CommitAsk,
+) -> Result<Option<Path>, AllocError>
+    ensures { IfOk result (λ path. path ≡ refusing_path locks.now changes.now ask.now.author
+        ask.now.tokens) }
+{
+    let tokens = ask.tokens.as_slice();
+    locks.refusing_path(alloc, changes.as_map(), ask.author.as_ref(), tokens)
 }
 
 /// Makes what is held after a revision with this tree and these changes, and with the properties that are asked for.

@@ -6,7 +6,7 @@ ghost use Rattle.repo_api.specs.{RevisionProperties.{property_refusal, with_chan
 ghost use Rattle.held.specs.{Contents.held_state, Growing.HasSameBut};
 ghost use Rattle.world.specs.Whole.{world_content};
 
-use crate::committing::with_commit;
+use crate::committing::{refused_at, with_commit};
 use crate::editing::edit_txn;
 use crate::world::World;
 use crate::world_txn::WorldTxn;
@@ -161,6 +161,10 @@ impl Repository for World {
 
     fn edit(&self, txn: &mut WorldTxn, op: EditOp) -> Result<(), AllocError> {
         edit_txn(self.alloc, &self.held, txn, &op)
+    }
+
+    fn refused_at(&self, ask: &CommitAsk, txn: &WorldTxn) -> Result<Option<Path>, AllocError> {
+        refused_at(self.alloc, &self.held, &self.locks, ask, txn)
     }
 
     fn commit(&mut self, ask: CommitAsk, txn: WorldTxn) -> Result<u64, ChangeFault> {

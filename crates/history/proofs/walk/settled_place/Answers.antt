@@ -1,5 +1,5 @@
 use Rattle.repo_api.specs.Histories.{history_of}
-use Rattle.history.proofs.{Ends.line_settled, Passing.listed_settled}
+use Rattle.history.proofs.{AllLines.lines_settled, Ends.line_settled, Passing.listed_settled}
 use Rattle.history.proofs.walk.settled_place.Goals as goal
 
 pub returns-clause-listed : goal.returns-clause-listed
@@ -10,4 +10,9 @@ returns-clause-listed g c strict low =
 pub returns-clause-line : goal.returns-clause-line
 returns-clause-line g c =
     line_settled (history_of (g.R.Repository.content c.args.repository.now)) c.args.at c.settled-revision.result c.settled-revision.ensures.within
+    c.settled-revision.ensures.quiet
+
+pub returns-clause-beneath : goal.returns-clause-beneath
+returns-clause-beneath g c =
+    lines_settled (history_of (g.R.Repository.content c.args.repository.now)) c.args.at c.settled-revision.result c.settled-revision.ensures.within
     c.settled-revision.ensures.quiet

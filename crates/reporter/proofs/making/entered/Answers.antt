@@ -7,7 +7,7 @@ pub returns-then-not-is_directory-clause-found : goal.returns-then-not-is_direct
 returns-then-not-is_directory-clause-found g c = λ vs is.
     record {
       rest = [];
-      is = is ∙ ap (λ v. v ∷ []) (c.entry_visit-visit.ensures ∙ ap (entry_visit c.args.is_anew c.args.is_directory) c.into_path.ensures) ∙ sym (ap (λ b. entry_visits b (entry_visit c.args.is_anew c.args.is_directory c.args.place.path) []) c.if-not-is_directory.true);
+      is = is ∙ ap (λ v. v ∷ []) c.entry_visit-visit.ensures.visit ∙ sym (ap (λ b. entry_visits b (entry_visit c.args.is_anew c.args.is_directory c.args.place.path) []) c.if-not-is_directory.true);
       file = λ _. refl;
       plan = below_file (g.S.Sides.trees c.args.sides.now) c.args.is_anew c.args.place.path c.requires.enters.stands (sym c.requires.enters.kind ∙ c.if-not-is_directory.true) c.requires.enters.stays;
     }

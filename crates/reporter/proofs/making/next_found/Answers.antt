@@ -1,5 +1,5 @@
-use Rattle.std.proofs.{Common.{◌++◌, sym, subst, []}, lemmas.Result.IfOk-weaker}
-use Rattle.reporter.specs.Knowing.{paths_of}
+use Rattle.std.proofs.{Common.{◌++◌, map, sym, subst, []}, lemmas.Result.IfOk-weaker}
+use Rattle.reporter.specs.{Visits.Visit.Delete}
 use Rattle.reporter.proofs.Leaving.{LeftOf}
 use Rattle.reporter.proofs.making.next_found.Goals as goal
 
@@ -8,8 +8,8 @@ returns-clause-next g c =
     IfOk-weaker c.next_entry.result _ _ (λ found goes_on. λ so. (
       (goes_on so).0,
       record {
-        next = λ vs more is left. subst (λ ds. LeftOf (g.S.Sides.trees c.args.sides.now) ds c.args.here.now.is_anew (paths_of c.args.here.now.entries.items) (vs ++ more)) (sym c.in_default.ensures.items) ((goes_on so).1.next vs more is left);
-        end = λ none. subst (λ ds. LeftOf (g.S.Sides.trees c.args.sides.now) ds c.args.here.now.is_anew (paths_of c.args.here.now.entries.items) []) (sym c.in_default.ensures.items) ((goes_on so).1.end none);
+        next = λ vs more is left. subst (λ ds. LeftOf (g.S.Sides.trees c.args.sides.now) (map Delete ds) c.args.here.now.is_anew c.args.here.now.entries.items (vs ++ more)) (sym c.in_default.ensures.items) ((goes_on so).1.next vs more is left);
+        end = λ none. subst (λ ds. LeftOf (g.S.Sides.trees c.args.sides.now) (map Delete ds) c.args.here.now.is_anew c.args.here.now.entries.items []) (sym c.in_default.ensures.items) ((goes_on so).1.end none);
       },
     ))
     c.next_entry.ensures.next

@@ -1,9 +1,10 @@
 use Rattle.std.proofs.{Common.{arith, ◌≡◌, ◌||◌, refl, false, true, not, sym, ap, ◌∙◌, subst, ◌+◌, ◌<◌, length}, lemmas.List.take_all}
 use Rattle.std.specs.Prelude.{is_some}
 use Rattle.drive_rules.proofs.Joined.{or_false}
-use Rattle.reporter.specs.{Knowing.{AreKnown, paths_of}, Walks.{AreChildren, IsChild, IsListed, goes, goes_at}}
+use Rattle.reporter.specs.{Knowing.{AreKnown, paths_of}, Walks.{AreUnlikeListed, IsChild, goes, goes_at}}
 use Rattle.reporter.proofs.{Knowing.{child_at, held_noted, known_at}, Planning.same_length, Plans.{below_file, same}, Remembering.noted}
-use Rattle.reporter.proofs.Reasons.{SaysNothing, alike_silent, coming_reason, due_reason, nothing_said_below, one_more, reason_above, going_or_absent}
+use Rattle.reporter.proofs.Reasons.{SaysNothing, coming_reason, due_reason, one_more, reason_above, going_or_absent}
+use Rattle.reporter.proofs.Leaving.{nothing_unlike, unlike_children}
 use Rattle.reporter.proofs.searching.+searching.Goals as goal
 
 -- ---- has_news
@@ -60,7 +61,8 @@ has_news_below-is_named-requires g t c κs inside = (
     child : IsChild c.args.place.now.path c.child-item.result.path
     child =
         child_at c.args.place.now.path c.deref-child-items.result.now c.loop-child.child-index c.child-item.result c.loop-child-test.true c.child-item.is
-        (subst (λ xs. AreChildren c.args.place.now.path (paths_of xs)) (sym c.deref-child-items.ensures.value) c.in_ok-children.ensures.listed.children).each
+        (unlike_children (g.S.Sides.trees c.args.sides.now) c.args.place.now.path (paths_of c.deref-child-items.result.now)
+        (subst (λ xs. AreUnlikeListed (g.S.Sides.trees c.args.sides.now) c.args.place.now.path (paths_of xs)) (sym c.deref-child-items.ensures.value) c.in_ok-children.ensures.listed))
 
     longer : length c.child-item.result.path ≡ length c.args.place.now.path + 1
     longer = same_length c.args.place.now.path c.child-item.result.path child
@@ -76,7 +78,8 @@ has_news_below-returns-then-branch-clause-found g t c = λ so.
     child : IsChild c.args.place.now.path c.child-item.result.path
     child =
         child_at c.args.place.now.path c.deref-child-items.result.now c.loop-child.child-index c.child-item.result c.loop-child-test.true c.child-item.is
-        (subst (λ xs. AreChildren c.args.place.now.path (paths_of xs)) (sym c.deref-child-items.ensures.value) c.in_ok-children.ensures.listed.children).each
+        (unlike_children (g.S.Sides.trees c.args.sides.now) c.args.place.now.path (paths_of c.deref-child-items.result.now)
+        (subst (λ xs. AreUnlikeListed (g.S.Sides.trees c.args.sides.now) c.args.place.now.path (paths_of xs)) (sym c.deref-child-items.ensures.value) c.in_ok-children.ensures.listed))
 
 pub has_news_below-loop-child-preserved : goal.has_news_below-loop-child-preserved
 has_news_below-loop-child-preserved g t c = (
@@ -94,15 +97,12 @@ has_news_below-returns-clause-found g t c = λ so.
       (
         c.requires.stands.stays refl,
         same (g.S.Sides.trees c.args.sides.now) c.args.place.now.path (c.requires.stands.stays refl) c.requires.same
-            (nothing_said_below (g.S.Sides.trees c.args.sides.now) c.args.place.now.path (paths_of c.deref-child-items.result.now) (subst (λ xs. IsListed (g.S.Sides.trees c.args.sides.now) c.args.place.now.path (paths_of xs)) (sym c.deref-child-items.ensures.value) c.in_ok-children.ensures.listed)
+            (nothing_unlike (g.S.Sides.trees c.args.sides.now) c.args.place.now.path (paths_of c.deref-child-items.result.now) (subst (λ xs. AreUnlikeListed (g.S.Sides.trees c.args.sides.now) c.args.place.now.path (paths_of xs)) (sym c.deref-child-items.ensures.value) c.in_ok-children.ensures.listed)
             (subst (λ xs. SaysNothing (g.S.Sides.trees c.args.sides.now) (paths_of xs)) (take_all c.loop-child.child-index c.deref-child-items.result.now (omega (c.loop-child-test.false, arith))) before.1)),
       ),
     )
 
 -- ---- is_named
-
-pub is_named-returns-then-branch-clause-found : goal.is_named-returns-then-branch-clause-found
-is_named-returns-then-branch-clause-found g t c = λ so. (so, alike_silent (g.S.Sides.trees c.args.sides.now) c.args.place.now.path (c.in_ok-is_alike.ensures c.if-branch.true))
 
 pub is_named-returns-then-not-is_present-clause-found : goal.is_named-returns-then-not-is_present-clause-found
 is_named-returns-then-not-is_present-clause-found g t c =

@@ -1,7 +1,7 @@
-use Rattle.std.proofs.Common.{[], ◌∷◌, inl, refl, sym, ◌∙◌}
-use Rattle.access.specs.Changing.{CommitsAt}
-use Rattle.published.specs.Moments.{begins_through, keeps, shared_rules}
-use Rattle.repo_api.specs.Accepted.Accepted.{Commits, Releases}
+use Rattle.std.proofs.Common.{[], ◌∷◌, inl, refl, sym, subst, ◌∙◌}
+use Rattle.access.specs.{Changing.CommitsAt, Points.content_of, Refused.{HasPath, without_path}}
+use Rattle.published.specs.{Events.{Known, point_of}, Moments.{begins_through, keeps, shared_rules}}
+use Rattle.repo_api.specs.{Accepted.Accepted.{Commits, Releases}, Commits.IsRefusedAt}
 use Rattle.keepers.proofs.Stopping.{still}
 use Rattle.seat_calls.proofs.Calling.{called, given_up, turned_away}
 use Rattle.seat_calls.proofs.calls.commit.Goals as goal
@@ -12,8 +12,13 @@ make_commit-answer-requires-clause-may g c = (begins_through _ _ _ c.requires.0 
 pub returns-clause-calls : goal.returns-clause-calls
 returns-clause-calls g c =
     let a = c.make_commit-answer in
-    called g.S.Files.kept g.S.Archive.stands (CommitsAt shared_rules c.args.ask (g.R.Repository.txn_state c.args.txn)) c.args.seat.now c.args.keeper.now c.meet.new.seat a.new.seat a.new.keeper a.result
+    called g.S.Files.kept g.S.Archive.stands (CommitsAt shared_rules c.args.ask (g.R.Repository.txn_state c.args.txn)) c.args.seat.now c.args.keeper.now c.meet.new.seat a.new.seat a.new.keeper (without_path a.result)
     (sym c.turns_away.ensures.0 ∙ c.if-turns_away.false) c.if-not-meet.ensures.meets a.ensures.point a.ensures.told c.archive-archive.ensures.steady
+
+pub returns-clause-path : goal.returns-clause-path
+returns-clause-path g c =
+    let a = c.make_commit-answer in
+    subst (λ (s : Known). HasPath a.result (IsRefusedAt (content_of (point_of s)) c.args.ask (g.R.Repository.txn_state c.args.txn))) (sym a.ensures.told) a.ensures.path
 
 pub returns-then-turns_away-clause-calls : goal.returns-then-turns_away-clause-calls
 returns-then-turns_away-clause-calls g c =

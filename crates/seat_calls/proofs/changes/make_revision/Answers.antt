@@ -1,12 +1,13 @@
 use Rattle.keepers.proofs.Stopping.{still}
-use Rattle.std.proofs.Common.{◌≡◌, [], ◌∷◌, ◌∙◌, sym, subst, Err}
-use Rattle.access.specs.Points.{content_of}
+use Rattle.std.proofs.Common.{◌≡◌, [], ◌∷◌, ◌∙◌, None, sym, subst, Err}
+use Rattle.access.specs.{Points.content_of, Refused.IfRefusal}
+use Rattle.access.proofs.Telling.{told_as}
 use Rattle.published.specs.Moments.{added}
-use Rattle.repo_api.specs.{Transactions.MayCommit, Accepted.{Accepted, IsJudged, refusal_of}, Accepted.Accepted.Commits, Commits.commit_refusal}
-use Rattle.repo_api.specs.States.{RepoState}
+use Rattle.repo_api.specs.{Transactions.MayCommit, Accepted.{Accepted, IsJudged, refusal_of}, Accepted.Accepted.Commits, Commits.{IsRefusedAt, commit_refusal}}
+use Rattle.repo_api.specs.States.{IsBeginning, RepoState}
 use Rattle.archives.specs.Archives.{IsMade}
 use Rattle.keepers.specs.{Settling.SettlesTo, Standing.{StopLeaves, now_of}}
-use Rattle.seat_calls.proofs.Changing.{next_by, accepted_now, commit_fails, number_is, refused, not_begun}
+use Rattle.seat_calls.proofs.Changing.{next_by, accepted_now, commit_fails, number_is, refused, not_begun, unbegun_unrefused, unsaved_unrefused}
 use Rattle.seat_calls.proofs.changes.make_revision.Goals as goal
 
 pub settle-requires-clause-next : goal.settle-requires-clause-next
@@ -65,8 +66,37 @@ pub returns-in-Err-committed-clause-point : goal.returns-in-Err-committed-clause
 returns-in-Err-committed-clause-point g c =
     let kept = g.S.Files.kept in
     let t = g.R.Repository.txn_state c.args.txn in
-    refused kept g.S.Archive.stands c.args.keeper.now c.args.seat.now.number c.readiness.ensures.0 c.in-Ok.ensures.1.0 (Unit {0}) {T = Unit {0}} (Commits c.args.ask t) (λ x q. Unit {0}) c.in-Err-committed.fault
-    (subst (λ (a : g.row.S.Denot). IsJudged {T = Unit {0}} (Err c.in-Err-committed.fault) (refusal_of (kept a).content (Commits c.args.ask t))) c.archive.ensures.archive c.in-Err-committed.ensures.0)
+    let p = now_of c.args.seat.now.number c.args.keeper.now in
+    let told = c.refused_commit-refused in
+    told_as {T = Unit {0}} (commit_refusal (content_of p) c.args.ask t) (Commits c.args.ask t) (λ x q. Unit {0}) p p
+    c.in-Err-committed.fault told.result.fault told.ensures.fault
+    (refused kept g.S.Archive.stands c.args.keeper.now c.args.seat.now.number c.readiness.ensures.0 c.in-Ok.ensures.1.0 (Unit {0}) {T = Unit {0}} (Commits c.args.ask t) (λ x q. Unit {0}) c.in-Err-committed.fault
+    (subst (λ (a : g.row.S.Denot). IsJudged {T = Unit {0}} (Err c.in-Err-committed.fault) (refusal_of (kept a).content (Commits c.args.ask t))) c.archive.ensures.archive c.in-Err-committed.ensures.0))
+
+pub refused_commit-refused-requires : goal.refused_commit-refused-requires
+refused_commit-refused-requires g c =
+    let t = g.R.Repository.txn_state c.args.txn in
+    subst (λ (x : RepoState). IsBeginning t.shown x.revisions) (sym (c.repository.ensures.repository ∙ c.readiness.ensures.0.content)) c.requires.may.0
+
+pub returns-in-Err-committed-clause-path : goal.returns-in-Err-committed-clause-path
+returns-in-Err-committed-clause-path g c =
+    let t = g.R.Repository.txn_state c.args.txn in
+    let told = c.refused_commit-refused in
+    subst (λ (x : RepoState). IfRefusal told.result.fault (IsRefusedAt x c.args.ask t told.result.path)) (c.repository.ensures.repository ∙ c.readiness.ensures.0.content) told.ensures.path
+
+pub returns-in-Err-settle-clause-path : goal.returns-in-Err-settle-clause-path
+returns-in-Err-settle-clause-path g c =
+    let t = g.R.Repository.txn_state c.args.txn in
+    let p = now_of c.args.seat.now.number c.args.keeper.now in
+    let q = now_of c.args.seat.now.number c.settle.new.self in
+    unsaved_unrefused p q (Commits c.of.result.value (g.R.Repository.txn_state c.of-in-Ok.result.value)) (IsRefusedAt (content_of q) c.args.ask t None)
+    c.in-Err-settle.fault c.in-Err-settle.ensures.point
+
+pub returns-in-Err-clause-path : goal.returns-in-Err-clause-path
+returns-in-Err-clause-path g c =
+    let t = g.R.Repository.txn_state c.args.txn in
+    let p = now_of c.args.seat.now.number c.args.keeper.now in
+    unbegun_unrefused g.S.Files.kept c.args.keeper.now (IsRefusedAt (content_of p) c.args.ask t None) c.in-Err.fault c.in-Err.ensures.1
 
 pub committed-requires : goal.committed-requires
 committed-requires g c =

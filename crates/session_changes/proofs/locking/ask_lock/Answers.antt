@@ -19,5 +19,6 @@ pub returns-in-Err-lock : goal.returns-in-Err-lock
 returns-in-Err-lock g c =
     let ask = c.args.ask in
     let env = c.args.turn.now.env in
+    let said = rw c.in-Ok.ensures at c.tell_unmade.ensures in
     not_made (λ x. lock_refusal x ask) (Locks ask) env c.args.client (told_before c.args.preface) (lock_answer env c.args.client ask) _ _ _
-    _ c.tell_fault.result _ _ refl refl c.in-Err-lock.ensures c.tell_fault.ensures
+    _ c.tell_unmade.result _ _ refl refl c.in-Err-lock.ensures said

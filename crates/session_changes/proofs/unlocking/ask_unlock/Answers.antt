@@ -8,7 +8,7 @@ use Rattle.session_changes.proofs.unlocking.ask_unlock.Goals as goal
 
 pub returns-in-Ok : goal.returns-in-Ok
 returns-in-Ok g c =
-    let ask = c.args.ask.now in
+    let ask = c.args.ask in
     let env = c.args.turn.now.env in
     let client = c.args.client in
     stepped (made (λ x. unlock_refusal x ask) (Unlocks ask) env client (told_before c.args.preface) (change_answer env client (Unlocks ask) (replies.Success ∷ [])) _ _ _
@@ -17,8 +17,8 @@ returns-in-Ok g c =
 
 pub returns-in-Err : goal.returns-in-Err
 returns-in-Err g c =
-    let ask = c.args.ask.now in
+    let ask = c.args.ask in
     let env = c.args.turn.now.env in
     let client = c.args.client in
     not_made (λ x. unlock_refusal x ask) (Unlocks ask) env client (told_before c.args.preface) (change_answer env client (Unlocks ask) (replies.Success ∷ [])) _ _ _
-    _ c.tell_fault.result _ _ refl refl c.in-Err.ensures c.tell_fault.ensures
+    _ c.tell_unmade.result _ _ refl refl c.in-Err.ensures c.tell_unmade.ensures

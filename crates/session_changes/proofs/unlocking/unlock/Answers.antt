@@ -17,7 +17,7 @@ returns-in-Ok g c =
     (UnlockAsked env client c.in-Ok.ask)
     (UnlockStep env client command (joined client.path command.path))
     _ _ (unlock_is env client command c.in-Ok.ask (joined client.path command.path) asked.0 asked.1 asked.2)
-    c.ask_unlock-phase.result _ _ c.ask_unlock-phase.ensures
+    c.ask_unlock.result _ _ c.ask_unlock.ensures
 
 pub returns-in_default : goal.returns-in_default
 returns-in_default g c =

@@ -1,4 +1,4 @@
-use Rattle.std.proofs.Common.{[], refl, sym, ◌∙◌}
+use Rattle.std.proofs.Common.{[], None, refl, sym, ◌∙◌}
 use Rattle.svnpath.specs.Urls.{path_of_text}
 use Rattle.refusals.specs.declared.Refusal.TheVariants as refusals
 use Rattle.wire_replies.specs.declared.reply.Reply.TheVariants as replies
@@ -49,7 +49,7 @@ returns-then-has_revprops g c =
 pub returns-else-has_revprops : goal.returns-else-has_revprops
 returns-else-has_revprops g c =
     rw c.in-ChangeRevProp.is (rw (sym c.has_revprops.ensures ∙ c.if-has_revprops.false)
-    (answered _ _ (told_before c.args.request.preface) (g.met.A.RepoAccess.stays _) (serves c.args.turn.now.env c.args.client (replies.Failure refusals.RevisionPropertiesClosed)) refl refl
+    (answered _ _ (told_before c.args.request.preface) (g.met.A.RepoAccess.stays _) (serves c.args.turn.now.env c.args.client (replies.Failure refusals.RevisionPropertiesClosed None)) refl refl
     _ c.refuse.result _ c.refuse.ensures))
 
 pub returns-in-Reparent : goal.returns-in-Reparent

@@ -12,4 +12,4 @@ returns-in-Ok g c =
 pub returns-in-Err-Refused : goal.returns-in-Err-Refused
 returns-in-Err-Refused g c =
     let refused = rw c.in-Err-Refused.field-0-is at c.in-Err-Refused.ensures.1 in
-    stepped (ends _ _ c.args.edit c.args.command.now _ _ c.apply_now.ensures.0 _ refused) _ c.give_up.result _ c.give_up.ensures
+    stepped (ends _ _ c.args.edit c.args.command.now _ _ c.apply_now.ensures.0 _ _ refused.0 refused.1) _ c.give_up.result _ c.give_up.ensures

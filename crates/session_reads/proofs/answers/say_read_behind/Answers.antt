@@ -18,12 +18,12 @@ returns-in_err-say_preface-clause-said g c =
     rw (p.1) (
       c.look.ensures.later,
       part_first _ (told_before c.args.preface)
-          (read_replies c.args.base.now c.args.command.now (content_of (g.A.RepoAccess.point c.look.new.self))) c.in_err-say_preface.ensures,
+          (read_replies c.args.client.now c.args.command.now (content_of (g.A.RepoAccess.point c.look.new.self))) c.in_err-say_preface.ensures,
     )
 
 pub returns-clause-said : goal.returns-clause-said
 returns-clause-said g c =
-    let told = read_replies c.args.base.now c.args.command.now in (
+    let told = read_replies c.args.client.now c.args.command.now in (
       c.look.ensures.later,
       subst (λ (x : RepoState). Says c.say_read.result (g.S.ReplySink.writes c.args.turn.now.out c.say_read.new.out) (told_before c.args.preface ++ told x))
           c.in_ok-view.ensures.view

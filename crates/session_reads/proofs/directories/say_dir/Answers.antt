@@ -9,3 +9,6 @@ returns-in_err-place g c =
 
 pub returns-in-Err : goal.returns-in-Err
 returns-in-Err g c = rw (sym c.in_ok-place.ensures ∙ c.in-Err.is) c.tell_refusal.ensures
+
+pub returns-in-Ok : goal.returns-in-Ok
+returns-in-Ok g c = rw (sym c.in_ok-place.ensures ∙ c.in-Ok.is) c.say_dir_at.ensures

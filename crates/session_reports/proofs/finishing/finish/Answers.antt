@@ -1,4 +1,4 @@
-use Rattle.std.proofs.Common.{[], refl}
+use Rattle.std.proofs.Common.{[], Some, refl}
 use Rattle.drive_wire.specs.{Reporting.Drawn.Fails, Reporting.EndStep}
 use Rattle.machine.specs.Reports.{drawn_answer, Draws}
 use Rattle.session_replies.proofs.Steps.{told_all, said, behind_answered}
@@ -23,10 +23,11 @@ returns-in-Err-Refused g c =
     let later = c.say_drive_now.ensures.0 in
     let unanswered = rw c.in-Err-Refused.field-0-is at c.in-Err-Refused.ensures.1 in
     let step = Draws env client (EndStep report) in
-    let a = drawn_answer env client (Fails r) in
+    let a = drawn_answer env client (Fails r (Some report.ask.goal)) in
     let is = fails rules env client report later (g.met.A.RepoAccess.sound p q later c.requires.trees).0 r unanswered.0 in
     let further = g.met.S.ReplySink.more in
-    said rules step p q a later is refl _ c.tell_refused.result _ (behind_answered _ further c.tell_refused.result [] a _ _ _ _ unanswered.1 c.tell_refused.ensures)
+    let told = rw c.goal_of-goal.ensures at c.tell_refused.ensures in
+    said rules step p q a later is refl _ c.tell_refused.result _ (behind_answered _ further c.tell_refused.result [] a _ _ _ _ unanswered.1 told)
 
 pub returns-in-Err-NoMemory : goal.returns-in-Err-NoMemory
 returns-in-Err-NoMemory g c =

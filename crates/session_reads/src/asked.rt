@@ -1,0 +1,24 @@
+//! What clients of either kind ask for.
+use commands::{GetLocationsCommand, LogCommand};
+use history::Place;
+
+/// A place that is asked for, and whether it is by a client of today.
+#[derive(Clone, Copy)]
+pub(crate) struct PlaceAsked<'a> {
+    pub(crate) place: &'a Place,
+    pub(crate) is_of_today: bool,
+}
+
+/// A log that is asked for, and whether it is by a client of today.
+#[derive(Clone, Copy)]
+pub(crate) struct LogAsked<'a> {
+    pub(crate) command: &'a LogCommand,
+    pub(crate) is_of_today: bool,
+}
+
+/// Locations that are asked for, and whether they are by a client of today.
+#[derive(Clone, Copy)]
+pub(crate) struct LocationsAsked<'a> {
+    pub(crate) command: &'a GetLocationsCommand,
+    pub(crate) is_of_today: bool,
+}
