@@ -168,10 +168,11 @@ class Had(NamedTuple):
 
 class Aim(NamedTuple):
     """Where a path is led: the path of the repository that it is to stand for, what is to be there, and whether what the client
-    has there stays."""
+    has there counts, and stays."""
 
     place: str
     node: Optional[Node]
+    counts: bool
     stays: bool
 
 
@@ -371,7 +372,7 @@ class Report:
             may_change_line = self.ignores_ancestry or link is not None or path == ""
             stays = is_of_one_kind and (may_change_line or had.line == node.line)
             # a link goes where nothing of its kind is
-            aims[path] = Aim(place, node if link is None or is_of_one_kind else None, stays)
+            aims[path] = Aim(place, node if link is None or is_of_one_kind else None, counts, stays)
             there = {beyond(other, path) for other in [*self.had, *(top for top, _, _ in self.places)] if is_at_or_under(other, path)}
             there |= {beyond(other, place) for other in tree if is_at_or_under(other, place)}
             for name in {rest.split("/")[0] for rest in there if rest}:
@@ -404,17 +405,25 @@ class Report:
 
     def limit(self, path, above):
         """How much of what is in a directory the drive is of, by the limit of the directory that it is in."""
-        if self.depth == "unknown" and self.is_directory(path):
+        is_replaced = self.of_today and path in self.had and not self.aims[path].stays
+        if self.depth == "unknown" and self.is_directory(path) and not is_replaced:
             return self.had[path].depth
+        if above is None and self.depth == "unknown":
+            # what takes the place of the target comes whole
+            return "infinity" if is_replaced else self.first_depth
         if above is None:
-            return self.first_depth if self.depth == "unknown" else self.depth
+            return self.depth
+        if self.of_today:
+            # the client takes an added directory for one of this depth
+            return "empty" if above == "immediates" else "infinity"
         return depth_below(above)
 
     def lets_in(self, limit, child):
         """Whether the drive is of an entry of a directory with this limit."""
-        if self.depth == "unknown" and child in self.had:
+        counts = child in self.had and (not self.of_today or self.aims[child].counts)
+        if self.depth == "unknown" and counts:
             return True
-        kinds = [kind_of(self.tree.get(child)), kind_of(self.had[child].node if child in self.had else None)]
+        kinds = [kind_of(self.tree.get(child)), kind_of(self.had[child].node if counts else None)]
         return limit in ("immediates", "infinity") or limit == "files" and "file" in kinds
 
     @cached_property

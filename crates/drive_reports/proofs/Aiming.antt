@@ -282,6 +282,14 @@ module _ (c : RepoState) (report : WholeReport) where
   and_behind true b h = h
   and_behind false b h = absurd (false≢true h)
 
+  -- what counts is had
+  pub counted_some : (q : PathValue) → is_at_or_under q Top ≡ true → is_some (option_map (λ (h : ReportedEntry). h.entry) (At q).had) ≡ true → is_some (Had q) ≡ true
+  counted_some = at_each (λ q a. is_some (option_map (λ (h : ReportedEntry). h.entry) a.had) ≡ true → is_some (Had q) ≡ true) (λ counts directory p own. by counts p)
+    where
+      by : (counts : Bool) (p : PathValue) → is_some (option_map (λ (h : ReportedEntry). h.entry) (cond counts (client_tree c report p) None)) ≡ true → is_some (Had p) ≡ true
+      by true p h = h
+      by false p h = absurd (false≢true h)
+
   -- what stays is of one kind with what is to stand there
   pub stays_kind : (q : PathValue) → is_at_or_under q Top ≡ true → (At q).stays ≡ true → are_of_one_kind (Had q) (At q).entry ≡ true
   stays_kind =

@@ -4,10 +4,9 @@ use Rattle.std.specs.FinMap.{get}
 use Rattle.svnpath.specs.Paths.{is_at_or_under, PathValue}
 use Rattle.repo_api.specs.{States.{LockMap, RepoState}, Trees.Tree, declared.entry.Entry.Entry, declared.lock.Lock.Lock}
 use Rattle.wire_forms.specs.Forms.{is_name}
-use Rattle.drive_rules.specs.{Scopes.{depth_below, DepthLimit, hides_nothing, scope_of, within}, Scopes.DepthLimit.{Given, Reported}}
-use Rattle.drive_rules.specs.declared.depth.Depth.{Depth}
-use Rattle.drive_reports.specs.{Aims.aim_at, Reported.{ReportedTree, reported_entries, has_directory}, declared.ask.DepthAsked.DepthAsked}
-use Rattle.drive_reports.specs.declared.report.ReportRoot.{ReportRoot}
+use Rattle.drive_rules.specs.{Scopes.{depth_added, depth_below, DepthLimit, hides_nothing, scope_of, within}, Scopes.DepthLimit.{Given, Reported}}
+use Rattle.drive_rules.specs.{declared.depth.Depth.Depth, declared.depth.Depth.TheVariants.Infinity}
+use Rattle.drive_reports.specs.{Aims.aim_at, Reported.{ReportedTree, reported_entries, has_directory}, declared.ask.DepthAsked.DepthAsked, declared.ask.DriveAsk.DriveAsk}
 pub use Rattle.drive_reports.specs.Wholes.{WholeReport, reported_tree, client_tree, goal_path, target_tree}
 use Rattle.drive_reports.specs.declared.ask.DepthAsked.TheVariants as asks
 
@@ -35,15 +34,15 @@ is_stale_token locks path entry None = false
 is_stale_token locks path entry (Some token) =
     is_some entry && not (holds_token (get locks path) token)
 
--- what is reported of a path keeps its token: to a client of today only where it stays, since such a
--- client cannot be told of the token of what comes anew
-abbrev pub keeps_token : RepoState → WholeReport → PathValue → Bool
-keeps_token c report q = not report.ask.is_of_today || (aim_at c report q).stays
+-- what is reported of a path holds of what is to be there: of a client of today only where its entry
+-- stays, since such a client forgets what it knows of another
+abbrev pub keeps_report : RepoState → WholeReport → PathValue → Bool
+keeps_report c report q = not report.ask.is_of_today || (aim_at c report q).stays
 
 -- the client's token of this path is stale, by the locks that stand now where the path is led
 abbrev pub is_stale : RepoState → WholeReport → PathValue → Bool
 is_stale c report q =
-    keeps_token c report q
+    keeps_report c report q
     && is_stale_token c.locks (aim_at c report q).from (target_entries c report q)
     (option_and_then (λ h. h.token) (client_tree c report q))
 
@@ -53,20 +52,41 @@ is_stale c report q =
 abbrev pub reported_depth : ReportedTree → PathValue → Option Depth
 reported_depth had q = if has_directory (had q) then option_map (λ h. h.depth) (had q) else None
 
+-- so it is where that holds
+abbrev pub depth_kept : RepoState → WholeReport → PathValue → Option Depth
+depth_kept c report q =
+    if keeps_report c report q then reported_depth (client_tree c report) q else None
+
+-- the depth of a target of which none was reported that holds: what the first of the report says, or
+-- all where another one takes the place of what the client has
+abbrev pub first_depth : RepoState → WholeReport → Depth
+first_depth c report =
+    let top = report.ask.target in
+    if is_some (client_tree c report top) && not (keeps_report c report top) then Infinity
+    else report.root.depth
+
 -- how deep the drive goes
-abbrev pub limit_of : ReportedTree → ReportRoot → DepthAsked → DepthLimit
-limit_of had root (asks.Given depth) = Given depth
-limit_of had root asks.AsReported = Reported (reported_depth had) root.depth
+abbrev pub limit_of : (PathValue → Option Depth) → Depth → DepthAsked → DepthLimit
+limit_of said top (asks.Given depth) = Given depth
+limit_of said top asks.AsReported = Reported said top
 
 -- so it goes by a report that has come to its end
 abbrev pub drive_limit : RepoState → WholeReport → DepthLimit
-drive_limit c report = limit_of (client_tree c report) report.root report.ask.depth
+drive_limit c report = limit_of (depth_kept c report) (first_depth c report) report.ask.depth
+
+-- what a directory inherits of its parent's depth: a client of today takes it for one that is added
+abbrev pub depth_inherited : DriveAsk → Depth → Depth
+depth_inherited ask = if ask.is_of_today then depth_added else depth_below
+
+-- what counts of what the client has
+abbrev pub counted_entries : RepoState → WholeReport → Tree
+counted_entries c report q = option_map (λ h. h.entry) (aim_at c report q).had
 
 -- the paths that the drive is of
 abbrev pub drive_scope : RepoState → WholeReport → PathValue → Bool
 drive_scope c report =
-    scope_of hides_nothing depth_below (drive_limit c report) (client_entries c report)
-    (target_entries c report) report.ask.target
+    scope_of hides_nothing (depth_inherited report.ask) (drive_limit c report)
+    (counted_entries c report) (target_entries c report) report.ask.target
 
 -- what the client has of these paths: all that it has, whether it counts or not
 abbrev pub old_tree : RepoState → WholeReport → Tree

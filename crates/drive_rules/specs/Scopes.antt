@@ -36,6 +36,13 @@ depth_below Immediates = Empty
 depth_below Files = Empty
 depth_below Empty = Empty
 
+-- what a client of today takes a directory for that is added in a directory of this depth
+abbrev pub depth_added : Depth → Depth
+depth_added Immediates = Empty
+depth_added Infinity = Infinity
+depth_added Files = Infinity
+depth_added Empty = Infinity
+
 -- the depth that was said of a directory, or else what it inherits of its parent's depth
 abbrev pub own_or_inherited : (Depth → Depth) → Option Depth → Depth → Depth
 own_or_inherited inherited (Some depth) above = depth

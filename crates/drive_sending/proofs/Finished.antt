@@ -6,11 +6,11 @@ use Rattle.std.specs.Prelude.{Result, Ok, Err, ok_or, is_some}
 use Rattle.svnpath.specs.{PathLaws.same_path_is, Paths.{is_at_or_under, PathValue, same_path}}
 use Rattle.refusals.specs.declared.Refusal.{Refusal}
 use Rattle.refusals.specs.declared.Refusal.TheVariants as refusals
-use Rattle.drive_rules.specs.{Scopes.{depth_below, hides_nothing, stays_in_scope, top_limit}, Steps.EntryKind.DirectoryKind}
+use Rattle.drive_rules.specs.{Scopes.{hides_nothing, stays_in_scope, top_limit}, Steps.EntryKind.DirectoryKind}
 use Rattle.drive_rules.proofs.Joined.{and_front}
 use Rattle.reporter.specs.{Visits.{entry_kind, kind_if}, Visits.Visit}
 use Rattle.drive_reports.specs.{Named.{IsNamed, AreNamed}, Refusing.{◌>>=◌, ok_if, OpenState, has_goal, has_anchor, finish_root}}
-use Rattle.drive_reports.specs.{Aims.aim_at, Reported.{reported_entries, has_directory}, Targets.{WholeReport, client_tree, reported_tree, target_entries, limit_of, new_tree}}
+use Rattle.drive_reports.specs.{Aims.aim_at, Reported.{has_directory}, Targets.{WholeReport, counted_entries, depth_inherited, drive_limit, reported_tree, target_entries, new_tree}}
 use Rattle.drive_reports.proofs.Aiming.{root_entry}
 use Rattle.drive_reports.specs.declared.report.ReportRoot.{ReportRoot}
 use Rattle.drive_sides.specs.Plans.{whole, IsPlan}
@@ -54,7 +54,7 @@ module _ (c : RepoState) (report : OpenState) (root : ReportRoot) where
   -- what is to stand at the root, by the target
   abbrev root_in : PathValue → Option Entry
   root_in top =
-      if is_at_or_under [] top && stays_in_scope hides_nothing depth_below (limit_of (client_tree c Whole) root report.ask.depth) (reported_entries (client_tree c Whole)) (target_entries c Whole) top (top_limit (limit_of (client_tree c Whole) root report.ask.depth) top) (drop (length top) [])
+      if is_at_or_under [] top && stays_in_scope hides_nothing (depth_inherited report.ask) (drive_limit c Whole) (counted_entries c Whole) (target_entries c Whole) top (top_limit (drive_limit c Whole) top) (drop (length top) [])
       then (if is_at_or_under [] top then (aim_at c Whole []).entry else None)
       else None
 

@@ -15,7 +15,7 @@ use Rattle.reporter.specs.{Nesting.{stands_as, walk}, Visits.{OwnSteps, entry_ki
 use Rattle.reporter.specs.Visits.Visit.{Open, Add, Delete, Close}
 use Rattle.drive_reports.specs.Named.{IsNamed, AreNamed}
 use Rattle.drive_reports.specs.Reported.{ReportedEntry, ReportedTree, left_by, top_entry, reported_as, in_subtree, in_graft, has_place, with_graft}
-use Rattle.drive_reports.specs.{Aims.aim_at, Targets.{WholeReport, client_tree, drive_scope, is_apart, is_stale, is_stale_token, keeps_token, new_tree, old_tree, stale_in, target_entries}}
+use Rattle.drive_reports.specs.{Aims.aim_at, Targets.{WholeReport, client_tree, drive_scope, is_apart, is_stale, is_stale_token, keeps_report, new_tree, old_tree, stale_in, target_entries}}
 use Rattle.drive_reports.specs.{declared.graft.Graft.Graft, declared.graft.Subtree.Subtree}
 use Rattle.drive_reports.proofs.Aiming.{at_led, entry_is, entry_stands, IsFront, IsLed}
 use Rattle.drive_wire.specs.Sent.{or_no_text}
@@ -173,7 +173,7 @@ module _ (c : RepoState) (report : WholeReport) (trees : AreTrees c.revisions) (
           absurd (differs (ap (option_map node_of) (is_old ∙ sym is_new), ap (option_map (λ (e : Entry). e.last)) (is_old ∙ sym is_new)))
 
   stale_named : (p : PathValue) → stale_in c report p ≡ true → IsNamed p
-  stale_named p stale = by (option_and_then (λ (h : ReportedEntry). h.token) (client_tree c report p)) (and_behind (keeps_token c report p) _ (and_behind (drive_scope c report p) (is_stale c report p) stale))
+  stale_named p stale = by (option_and_then (λ (h : ReportedEntry). h.token) (client_tree c report p)) (and_behind (keeps_report c report p) _ (and_behind (drive_scope c report p) (is_stale c report p) stale))
     where
       by : (token : Option (List ℕ)) → is_stale_token c.locks (aim_at c report p).from (target_entries c report p) token ≡ true → IsNamed p
       by None h = absurd (false≢true h)

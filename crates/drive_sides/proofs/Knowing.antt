@@ -1,13 +1,13 @@
 -- What is known of the paths of a drive, and in their lists.
 use Rattle.std.proofs.{Common.{◌≡◌, ◌+◌, ◌<◌, ◌≤◌, ℕ, Bool, true, false, cond, ◌&&◌, List, [], ◌∷◌, ◌++◌, length, drop, get_or, Option, None, option_map, inl, inr, sym, ap, ◌∙◌, refl, subst}, lemmas.{Bool.false≢true, List.{append_assoc, append-nil, map-append}}}
-use Rattle.std.specs.Prelude.{IfOk, Result, Ok, Err, Some, Vec, is_some}
+use Rattle.std.specs.Prelude.{IfOk, Result, Ok, Err, Some, is_some}
 use Rattle.svnpath.specs.{PathLaws.{rest_append, under_append}, Paths.{Component, is_at_or_under, PathValue}}
 use Rattle.repo_api.specs.{Histories.history_of, Kinds.kind_of, States.{RepoState, trees_in}, declared.entry.Entry.Entry, declared.entry.NodeKind.NodeKind}
 use Rattle.history.specs.{Lines.is_one_line, Logs.place_at}
 use Rattle.drive_rules.proofs.Entries.{under_more}
 use Rattle.reporter.specs.{Knowing.{IsKnownAt, paths_of}, Walks.{AreAlike, IsChild, LeavesUnlike, WalkedTrees}, declared.known_path.KnownPath.KnownPath}
 use Rattle.drive_reports.specs.{Aims.{Aim, aim_at, aim_of, are_of_one_kind, entry_led, is_of_line, keeps_line}, Links.{led_to, link_at}, Places.reported_subtree, Reported.{ReportedEntry, reported_as, top_entry}}
-use Rattle.drive_reports.specs.{Targets.{WholeReport, client_entries, client_tree}, declared.graft.Subtree.Subtree, declared.reported.ReportedPlace.ReportedPlace}
+use Rattle.drive_reports.specs.{Targets.{WholeReport, client_entries, client_tree, counted_entries}, declared.graft.Subtree.Subtree, declared.reported.ReportedPlace.ReportedPlace}
 use Rattle.drive_reports.specs.declared.graft.Graft.{Graft}
 use Rattle.drive_reports.proofs.Aiming.{aim_child}
 use Rattle.drive_sides.proofs.Reaching.{next_name, no_more}
@@ -70,6 +70,15 @@ child_aim c report holder p x own under (name, child) says is =
 counted_entry : (b : Bool) (o : Option ReportedEntry) → cond b (option_map (λ (h : ReportedEntry). h.entry) o) None ≡ option_map (λ (h : ReportedEntry). h.entry) (cond b o None)
 counted_entry true o = refl
 counted_entry false o = refl
+
+-- what counts of what is had in a directory, by what the directory says
+pub counted_child : (c : RepoState) (report : WholeReport) (holder : Holder) (p x : PathValue) → is_at_or_under p report.ask.target ≡ true → IsChild p x → holder ≡ holder_at c report p
+    → cond holder.counts (client_entries c report x) None ≡ counted_entries c report x
+counted_child c report holder p x under (name, child) says =
+    ap (λ (h : Holder). cond h.counts (client_entries c report x) None) says
+    ∙ ap (λ y. cond (holder_at c report p).counts (client_entries c report y) None) child
+    ∙ counted_entry (holder_at c report p).counts (client_tree c report (p ++ name ∷ []))
+    ∙ sym (ap (λ (a : Aim). option_map (λ (h : ReportedEntry). h.entry) a.had) (ap (aim_at c report) child ∙ aim_child c report p name under))
 
 -- what was found out of a path by its aim
 module _ (c : RepoState) (report : WholeReport) (holder : Holder) (p own goal : PathValue) (link : Option Graft) (old there kind : NodeKind)

@@ -6,14 +6,14 @@ use Rattle.std.specs.Prelude.{ok_or, is_some, IsSomeAnd, IsTrue}
 use Rattle.svnpath.specs.{PathLaws.{same_path_is, same_path_refl}, Paths.{is_at_or_under, PathValue, same_path}}
 use Rattle.refusals.specs.declared.Refusal.TheVariants as refusals
 use Rattle.repo_api.specs.{Soundness.AreTrees, States.{RepoState, trees_in}, Trees.{HasDirectory, is_directory, is_directory_there}, declared.entry.Entry.Entry}
-use Rattle.drive_rules.specs.{Places.is_in_directory, Drives.{IsInBoth, IsOfOneKind}, Scopes.{below, depth_below, hides_nothing, scope_of, under}}
+use Rattle.drive_rules.specs.{Places.is_in_directory, Drives.{IsInBoth, IsOfOneKind}, Scopes.{below, hides_nothing, scope_of, under}}
 use Rattle.drive_wire.specs.Sent.{seen_by}
 use Rattle.drive_news.specs.News.{own_steps_of}
 use Rattle.reporter.specs.{Left.{IsRootPlan, IsTopPlan}, Nesting.AreNested, Visits.IsRightPlan, Walks.BothHold, Visits.Visit}
 use Rattle.reporter.specs.Visits.Visit.{Open}
 use Rattle.drive_reports.proofs.{Aiming.{apart_under, both_directories, one_kind, other_stays, root_entry, root_stays, stays_kind}, Drives.both_hold}
 use Rattle.drive_reports.specs.{Refusing.{OpenState, ◌>>=◌, ok_if, has_goal, has_anchor, finish_root}, Reported.{ReportedEntry, reported_entries}}
-use Rattle.drive_reports.specs.{Aims.aim_at, Targets.{WholeReport, client_entries, client_tree, drive_scope, limit_of, reported_tree, is_apart, old_tree, new_tree, stale_in, target_entries}}
+use Rattle.drive_reports.specs.{Aims.aim_at, Targets.{WholeReport, client_entries, client_tree, counted_entries, depth_inherited, drive_limit, drive_scope, reported_tree, is_apart, old_tree, new_tree, stale_in, target_entries}}
 use Rattle.drive_reports.specs.declared.report.ReportRoot.{ReportRoot}
 use Rattle.drive_reports.specs.Reported as reported
 use Rattle.drive_sides.specs.Plans.{IsPlan, drive_trees, whole}
@@ -47,7 +47,7 @@ both_anchors c report root h top =
 -- the root stands on both sides where there is no target
 scope_root : (c : RepoState) (report : OpenState) (root : ReportRoot) → report.ask.target ≡ [] → drive_scope c (whole report root) [] ≡ true
 scope_root c report root is =
-    ap (λ (t : PathValue). scope_of hides_nothing depth_below (limit_of (client_tree c (whole report root)) root report.ask.depth) (reported_entries (client_tree c (whole report root))) (target_entries c (whole report root)) t []) is
+    ap (λ (t : PathValue). scope_of hides_nothing (depth_inherited report.ask) (drive_limit c (whole report root)) (counted_entries c (whole report root)) (target_entries c (whole report root)) t []) is
 
 same_root : (target : PathValue) → target ≡ [] → same_path target [] ≡ true
 same_root target is = ap (λ t. same_path t []) is

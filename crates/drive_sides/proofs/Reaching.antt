@@ -1,61 +1,70 @@
 -- Which paths a drive is of.
 use Rattle.std.proofs.Common.{◌≡◌, arith, add-one, drop-cons, get_or, not, ◌+◌, ◌<◌, ◌≤◌, ℕ, zero, suc, Bool, true, false, ◌&&◌, List, [], ◌∷◌, ◌++◌, length}
-use Rattle.std.proofs.{Common.{drop, refl, sym, ap, ◌∙◌}, lemmas.Bool.false≢true}
+use Rattle.std.proofs.{Common.{drop, refl, sym, ap, ◌∙◌, if◌then◌else◌}, lemmas.Bool.false≢true}
 use Rattle.svnpath.specs.Paths.{Component, is_at_or_under, PathValue}
 use Rattle.repo_api.specs.{States.{RepoState, trees_in}, Trees.Tree, declared.entry.Entry.Entry}
 use Rattle.drive_rules.specs.declared.depth.Depth.{Depth}
-use Rattle.drive_rules.specs.Scopes.{depth_below, depth_said, DepthLimit, hides_nothing, includes, own_or_inherited, scope_of, stays_in_scope, top_limit}
+use Rattle.drive_rules.specs.Scopes.{depth_added, depth_below, depth_said, DepthLimit, hides_nothing, includes, own_or_inherited, scope_of, stays_in_scope, top_limit}
 use Rattle.drive_rules.specs.{Scopes.DepthLimit.{Given, Reported}, declared.depth.Depth.TheVariants.{Empty, Files, Immediates, Infinity}}
-use Rattle.std.specs.{Prelude.{Option, Some, None, cond, fold, option_map, option_and_then}, List.list_any, Option.option_map_or}
-use Rattle.drive_reports.specs.Reported.{ReportedEntry, ReportedTree, reported_entries, reported_as, top_entry, left_by, in_subtree, in_graft, with_graft}
-use Rattle.drive_reports.specs.{Reported.{has_place, has_directory}, declared.graft.Graft.Graft, declared.graft.Subtree.Subtree}
-use Rattle.drive_reports.specs.{Targets.{WholeReport, client_tree, drive_scope, limit_of, reported_depth, target_entries}, Depths.{is_shallow, is_to_the_end}}
+use Rattle.std.specs.{Prelude.{Option, Some, None, cond, is_some, fold, option_map, option_and_then}, List.list_any, Option.option_map_or}
+use Rattle.drive_reports.specs.Reported.{ReportedEntry, ReportedTree, reported_as, top_entry, left_by, in_subtree, in_graft, with_graft}
+use Rattle.drive_reports.specs.{Reported.{has_place, has_directory}, declared.ask.DriveAsk.DriveAsk, declared.graft.Graft.Graft, declared.graft.Subtree.Subtree}
+use Rattle.drive_reports.specs.{Targets.{WholeReport, client_tree, counted_entries, depth_inherited, depth_kept, drive_scope, first_depth, keeps_report, limit_of, reported_depth, target_entries}, Depths.{is_shallow, is_to_the_end}}
 use Rattle.drive_sides.specs.Depths.{FollowsWholeReport}
 use Rattle.drive_rules.proofs.Joined.{or_false}
 use Rattle.drive_reports.specs.declared.ask.DepthAsked.TheVariants as asks
 
-all_reached : (old new : Tree) (here : PathValue) (names : List Component) → stays_in_scope hides_nothing depth_below (Given Infinity) old new here Infinity names ≡ true
-all_reached old new here [] = refl
-all_reached old new here (c ∷ names) = all_reached old new (here ++ c ∷ []) names
+-- what is inherited of everything is everything
+pub inherits_all : (ask : DriveAsk) → depth_inherited ask Infinity ≡ Infinity
+inherits_all ask = by ask.is_of_today
+  where
+    by : (b : Bool) → (if b then depth_added else depth_below) Infinity ≡ Infinity
+    by true = refl
+    by false = refl
+
+all_reached : (inherited : Depth → Depth) → inherited Infinity ≡ Infinity → (old new : Tree) (here : PathValue) (names : List Component) → stays_in_scope hides_nothing inherited (Given Infinity) old new here Infinity names ≡ true
+all_reached inherited all old new here [] = refl
+all_reached inherited all old new here (c ∷ names) =
+    ap (λ d. stays_in_scope hides_nothing inherited (Given Infinity) old new (here ++ c ∷ []) d names) all ∙ all_reached inherited all old new (here ++ c ∷ []) names
 
 -- a drive to the end is of all that is at or under its top
-pub all_in_scope : (old new : Tree) (top q : PathValue) → is_at_or_under q top ≡ true → scope_of hides_nothing depth_below (Given Infinity) old new top q ≡ true
-all_in_scope old new top q up = ap (λ b. b && stays_in_scope hides_nothing depth_below (Given Infinity) old new top Infinity (drop (length top) q)) up ∙ all_reached old new top (drop (length top) q)
+pub all_in_scope : (inherited : Depth → Depth) → inherited Infinity ≡ Infinity → (old new : Tree) (top q : PathValue) → is_at_or_under q top ≡ true → scope_of hides_nothing inherited (Given Infinity) old new top q ≡ true
+all_in_scope inherited all old new top q up = ap (λ b. b && stays_in_scope hides_nothing inherited (Given Infinity) old new top Infinity (drop (length top) q)) up ∙ all_reached inherited all old new top (drop (length top) q)
 
 -- ---- one name after another
 
 -- so far down nothing has left the scope
-abbrev pub IsSoFar : DepthLimit → Tree → Tree → PathValue → PathValue → PathValue → Depth → List Component → Type 0
-IsSoFar limit old new top q here depth names = stays_in_scope hides_nothing depth_below limit old new top (top_limit limit top) (drop (length top) q) ≡ stays_in_scope hides_nothing depth_below limit old new here depth names
+abbrev pub IsSoFar : (Depth → Depth) → DepthLimit → Tree → Tree → PathValue → PathValue → PathValue → Depth → List Component → Type 0
+IsSoFar inherited limit old new top q here depth names = stays_in_scope hides_nothing inherited limit old new top (top_limit limit top) (drop (length top) q) ≡ stays_in_scope hides_nothing inherited limit old new here depth names
 
 pub next_name : (names : List Component) (i : ℕ) (x : Component) → i < length names → x ≡ get_or names i x → drop i names ≡ x ∷ drop (i + 1) names
 next_name names i x h is = (rw (add-one, drop-cons names i x) refl) ∙ ap (λ y. y ∷ drop (i + 1) names) (sym is)
 
-next_step : (limit : DepthLimit) (old new : Tree) (here child : PathValue) (depth : Depth) (names : List Component) (i : ℕ) (x : Component) → i < length names → x ≡ get_or names i x → child ≡ here ++ x ∷ []
-    → stays_in_scope hides_nothing depth_below limit old new here depth (drop i names) ≡ (includes limit old new depth child && stays_in_scope hides_nothing depth_below limit old new child (own_or_inherited depth_below (depth_said limit child) depth) (drop (i + 1) names))
-next_step limit old new here child depth names i x lt is child_is =
-    ap (stays_in_scope hides_nothing depth_below limit old new here depth) (next_name names i x lt is)
-    ∙ ap (λ p. includes limit old new depth p && stays_in_scope hides_nothing depth_below limit old new p (own_or_inherited depth_below (depth_said limit p) depth) (drop (i + 1) names)) (sym child_is)
+next_step : (inherited : Depth → Depth) (limit : DepthLimit) (old new : Tree) (here child : PathValue) (depth : Depth) (names : List Component) (i : ℕ) (x : Component) → i < length names → x ≡ get_or names i x → child ≡ here ++ x ∷ []
+    → stays_in_scope hides_nothing inherited limit old new here depth (drop i names) ≡ (includes limit old new depth child && stays_in_scope hides_nothing inherited limit old new child (own_or_inherited inherited (depth_said limit child) depth) (drop (i + 1) names))
+next_step inherited limit old new here child depth names i x lt is child_is =
+    ap (stays_in_scope hides_nothing inherited limit old new here depth) (next_name names i x lt is)
+    ∙ ap (λ p. includes limit old new depth p && stays_in_scope hides_nothing inherited limit old new p (own_or_inherited inherited (depth_said limit p) depth) (drop (i + 1) names)) (sym child_is)
 
 pub was_true : (b : Bool) → not b ≡ false → b ≡ true
 was_true true h = refl
 was_true false h = absurd (false≢true (sym h))
 
-pub stops : (limit : DepthLimit) (old new : Tree) (top q here child : PathValue) (depth : Depth) (names : List Component) (i : ℕ) (x : Component) (b : Bool) → is_at_or_under q top ≡ true
-    → IsSoFar limit old new top q here depth (drop i names) → i < length names → x ≡ get_or names i x → child ≡ here ++ x ∷ [] → b ≡ includes limit old new depth child → b ≡ false
-    → false ≡ scope_of hides_nothing depth_below limit old new top q
-stops limit old new top q here child depth names i x b up far lt is child_is lets none =
-    sym (ap (λ u. u && stays_in_scope hides_nothing depth_below limit old new top (top_limit limit top) (drop (length top) q)) up
-    ∙ far ∙ next_step limit old new here child depth names i x lt is child_is
-    ∙ ap (λ u. u && stays_in_scope hides_nothing depth_below limit old new child (own_or_inherited depth_below (depth_said limit child) depth) (drop (i + 1) names)) (sym lets ∙ none))
+pub stops : (inherited : Depth → Depth) (limit : DepthLimit) (old new : Tree) (top q here child : PathValue) (depth : Depth) (names : List Component) (i : ℕ) (x : Component) (b : Bool) → is_at_or_under q top ≡ true
+    → IsSoFar inherited limit old new top q here depth (drop i names) → i < length names → x ≡ get_or names i x → child ≡ here ++ x ∷ [] → b ≡ includes limit old new depth child → b ≡ false
+    → false ≡ scope_of hides_nothing inherited limit old new top q
+stops inherited limit old new top q here child depth names i x b up far lt is child_is lets none =
+    sym (ap (λ u. u && stays_in_scope hides_nothing inherited limit old new top (top_limit limit top) (drop (length top) q)) up
+    ∙ far ∙ next_step inherited limit old new here child depth names i x lt is child_is
+    ∙ ap (λ u. u && stays_in_scope hides_nothing inherited limit old new child (own_or_inherited inherited (depth_said limit child) depth) (drop (i + 1) names)) (sym lets ∙ none))
 
-pub goes_on : (limit : DepthLimit) (old new : Tree) (top q here child : PathValue) (depth next : Depth) (names : List Component) (i : ℕ) (x : Component) (b : Bool)
-    → IsSoFar limit old new top q here depth (drop i names) → i < length names → x ≡ get_or names i x → child ≡ here ++ x ∷ [] → b ≡ includes limit old new depth child → b ≡ true
-    → next ≡ own_or_inherited depth_below (depth_said limit child) depth → IsSoFar limit old new top q child next (drop (i + 1) names)
-goes_on limit old new top q here child depth next names i x b far lt is child_is lets some next_is =
-    far ∙ next_step limit old new here child depth names i x lt is child_is
-    ∙ ap (λ u. u && stays_in_scope hides_nothing depth_below limit old new child (own_or_inherited depth_below (depth_said limit child) depth) (drop (i + 1) names)) (sym lets ∙ some)
-    ∙ ap (λ d. stays_in_scope hides_nothing depth_below limit old new child d (drop (i + 1) names)) (sym next_is)
+pub goes_on : (inherited : Depth → Depth) (limit : DepthLimit) (old new : Tree) (top q here child : PathValue) (depth next : Depth) (names : List Component) (i : ℕ) (x : Component) (b : Bool)
+    → IsSoFar inherited limit old new top q here depth (drop i names) → i < length names → x ≡ get_or names i x → child ≡ here ++ x ∷ [] → b ≡ includes limit old new depth child → b ≡ true
+    → next ≡ own_or_inherited inherited (depth_said limit child) depth → IsSoFar inherited limit old new top q child next (drop (i + 1) names)
+goes_on inherited limit old new top q here child depth next names i x b far lt is child_is lets some next_is =
+    far ∙ next_step inherited limit old new here child depth names i x lt is child_is
+    ∙ ap (λ u. u && stays_in_scope hides_nothing inherited limit old new child (own_or_inherited inherited (depth_said limit child) depth) (drop (i + 1) names)) (sym lets ∙ some)
+    ∙ ap (λ d. stays_in_scope hides_nothing inherited limit old new child d (drop (i + 1) names)) (sym next_is)
 
 pub no_more : (names : List Component) (i : ℕ) → length names ≤ i → drop i names ≡ []
 no_more [] zero le = refl
@@ -63,16 +72,16 @@ no_more [] (suc i) le = refl
 no_more (x ∷ names) zero le = absurd (omega (le, arith))
 no_more (x ∷ names) (suc i) le = no_more names i (omega (le, arith))
 
-pub ends : (limit : DepthLimit) (old new : Tree) (top q here : PathValue) (depth : Depth) (names : List Component) (i : ℕ) → is_at_or_under q top ≡ true
-    → IsSoFar limit old new top q here depth (drop i names) → length names ≤ i → true ≡ scope_of hides_nothing depth_below limit old new top q
-ends limit old new top q here depth names i up far le =
-    sym (ap (λ u. u && stays_in_scope hides_nothing depth_below limit old new top (top_limit limit top) (drop (length top) q)) up
-    ∙ far ∙ ap (stays_in_scope hides_nothing depth_below limit old new here depth) (no_more names i le))
+pub ends : (inherited : Depth → Depth) (limit : DepthLimit) (old new : Tree) (top q here : PathValue) (depth : Depth) (names : List Component) (i : ℕ) → is_at_or_under q top ≡ true
+    → IsSoFar inherited limit old new top q here depth (drop i names) → length names ≤ i → true ≡ scope_of hides_nothing inherited limit old new top q
+ends inherited limit old new top q here depth names i up far le =
+    sym (ap (λ u. u && stays_in_scope hides_nothing inherited limit old new top (top_limit limit top) (drop (length top) q)) up
+    ∙ far ∙ ap (stays_in_scope hides_nothing inherited limit old new here depth) (no_more names i le))
 
 pub whole_scope : (c : RepoState) (report : WholeReport) (q : PathValue) → report.ask.depth ≡ asks.Given Infinity → is_at_or_under q report.ask.target ≡ true → true ≡ drive_scope c report q
 whole_scope c report q is up =
-    sym (ap (λ d. scope_of hides_nothing depth_below (limit_of (client_tree c report) report.root d) (reported_entries (client_tree c report)) (target_entries c report) report.ask.target q) is
-    ∙ all_in_scope (reported_entries (client_tree c report)) (target_entries c report) report.ask.target q up)
+    sym (ap (λ d. scope_of hides_nothing (depth_inherited report.ask) (limit_of (depth_kept c report) (first_depth c report) d) (counted_entries c report) (target_entries c report) report.ask.target q) is
+    ∙ all_in_scope (depth_inherited report.ask) (inherits_all report.ask) (counted_entries c report) (target_entries c report) report.ask.target q up)
 
 -- ---- as deep as was reported, where everything was reported
 
@@ -130,51 +139,72 @@ deep_fold trees top had (g ∷ grafts) all deep =
     let each = or_false (is_shallow g) (list_any is_shallow grafts) deep in
     deep_fold trees top (with_graft trees top had g) grafts (deep_with trees top had g all each.0) each.1
 
--- the depth of a directory that is had, or else this one
-deep_said : (had : ReportedTree) → HasAllDeep had → (q : PathValue) → own_or_inherited depth_below (reported_depth had q) Infinity ≡ Infinity
-deep_said had all q = by (had q) (all q)
+-- the depth of a directory that is had and is kept, or else what is inherited of everything
+deep_said : (c : RepoState) (report : WholeReport) → HasAllDeep (client_tree c report) → (q : PathValue) → own_or_inherited (depth_inherited report.ask) (depth_kept c report q) Infinity ≡ Infinity
+deep_said c report all q = kept (keeps_report c report q)
   where
-    among : (b : Bool) (h : ReportedEntry) → h.depth ≡ Infinity → own_or_inherited depth_below (cond b (Some h.depth) None) Infinity ≡ Infinity
+    inherited : Depth → Depth
+    inherited = depth_inherited report.ask
+
+    among : (b : Bool) (h : ReportedEntry) → h.depth ≡ Infinity → own_or_inherited inherited (cond b (Some h.depth) None) Infinity ≡ Infinity
     among true h deep = deep
-    among false h deep = refl
+    among false h deep = inherits_all report.ask
 
     by : (o : Option ReportedEntry) → depth_had o ≡ Infinity
-        → own_or_inherited depth_below (cond (has_directory o) (option_map (λ (h : ReportedEntry). h.depth) o) None) Infinity ≡ Infinity
-    by None deep = refl
+        → own_or_inherited inherited (cond (has_directory o) (option_map (λ (h : ReportedEntry). h.depth) o) None) Infinity ≡ Infinity
+    by None deep = inherits_all report.ask
     by (Some h) deep = among (has_directory (Some h)) h deep
 
--- the top too
-deep_top : (said : PathValue → Option Depth) (depth : Depth) (top : PathValue) → own_or_inherited depth_below (said top) Infinity ≡ Infinity
-    → depth ≡ Infinity → top_limit (Reported said depth) top ≡ Infinity
-deep_top said depth top deep is = by (said top) refl deep
+    kept : (b : Bool) → own_or_inherited inherited (cond b (reported_depth (client_tree c report) q) None) Infinity ≡ Infinity
+    kept true = by (client_tree c report q) (all q)
+    kept false = inherits_all report.ask
+
+-- the depth of a target of which none is kept
+first_deep : (c : RepoState) (report : WholeReport) → report.root.depth ≡ Infinity → first_depth c report ≡ Infinity
+first_deep c report deep = by (is_some (client_tree c report report.ask.target) && not (keeps_report c report report.ask.target))
   where
-    by : (o : Option Depth) → said top ≡ o → own_or_inherited depth_below o Infinity ≡ Infinity → top_limit (Reported said depth) top ≡ Infinity
+    by : (b : Bool) → cond b Infinity report.root.depth ≡ Infinity
+    by true = refl
+    by false = deep
+
+-- the top too
+deep_top : (inherited : Depth → Depth) (said : PathValue → Option Depth) (depth : Depth) (top : PathValue) → own_or_inherited inherited (said top) Infinity ≡ Infinity
+    → depth ≡ Infinity → top_limit (Reported said depth) top ≡ Infinity
+deep_top inherited said depth top deep is = by (said top) refl deep
+  where
+    by : (o : Option Depth) → said top ≡ o → own_or_inherited inherited o Infinity ≡ Infinity → top_limit (Reported said depth) top ≡ Infinity
     by None e d = rw e is
     by (Some x) e d = rw e d
 
-reached_as : (said : PathValue → Option Depth) (depth : Depth)
-    → ((q : PathValue) → own_or_inherited depth_below (said q) Infinity ≡ Infinity)
+reached_as : (inherited : Depth → Depth) (said : PathValue → Option Depth) (depth : Depth)
+    → ((q : PathValue) → own_or_inherited inherited (said q) Infinity ≡ Infinity)
     → (old new : Tree) (here : PathValue) (names : List Component)
-    → stays_in_scope hides_nothing depth_below (Reported said depth) old new here Infinity names ≡ true
-reached_as said depth deep old new here [] = refl
-reached_as said depth deep old new here (c ∷ names) =
-    ap (λ d. stays_in_scope hides_nothing depth_below (Reported said depth) old new (here ++ c ∷ []) d names) (deep (here ++ c ∷ []))
-    ∙ reached_as said depth deep old new (here ++ c ∷ []) names
+    → stays_in_scope hides_nothing inherited (Reported said depth) old new here Infinity names ≡ true
+reached_as inherited said depth deep old new here [] = refl
+reached_as inherited said depth deep old new here (c ∷ names) =
+    ap (λ d. stays_in_scope hides_nothing inherited (Reported said depth) old new (here ++ c ∷ []) d names) (deep (here ++ c ∷ []))
+    ∙ reached_as inherited said depth deep old new (here ++ c ∷ []) names
 
 pub whole_as_reported : (c : RepoState) (report : WholeReport) (q : PathValue) → FollowsWholeReport report
     → is_at_or_under q report.ask.target ≡ true → true ≡ drive_scope c report q
 whole_as_reported c report q follows up =
-    sym (ap (λ d. scope_of hides_nothing depth_below (limit_of had report.root d) old new top q) follows.0
-    ∙ ap (λ b. b && stays_in_scope hides_nothing depth_below limit old new top (top_limit limit top) (drop (length top) q)) up
-    ∙ ap (λ d. stays_in_scope hides_nothing depth_below limit old new top d (drop (length top) q))
-    (deep_top (reported_depth had) report.root.depth top (deep_said had deep top) (to_the_end report.root.depth follows.1))
-    ∙ reached_as (reported_depth had) report.root.depth (deep_said had deep) old new top (drop (length top) q))
+    sym (ap (λ d. scope_of hides_nothing inherited (limit_of said first d) old new top q) follows.0
+    ∙ ap (λ b. b && stays_in_scope hides_nothing inherited limit old new top (top_limit limit top) (drop (length top) q)) up
+    ∙ ap (λ d. stays_in_scope hides_nothing inherited limit old new top d (drop (length top) q))
+    (deep_top inherited said first top (deep_said c report deep top) (first_deep c report (to_the_end report.root.depth follows.1)))
+    ∙ reached_as inherited said first (deep_said c report deep) old new top (drop (length top) q))
   where
-    had : ReportedTree
-    had = client_tree c report
+    inherited : Depth → Depth
+    inherited = depth_inherited report.ask
+
+    said : PathValue → Option Depth
+    said = depth_kept c report
+
+    first : Depth
+    first = first_depth c report
 
     old : Tree
-    old = reported_entries had
+    old = counted_entries c report
 
     new : Tree
     new = target_entries c report
@@ -183,7 +213,7 @@ whole_as_reported c report q follows up =
     top = report.ask.target
 
     limit : DepthLimit
-    limit = Reported (reported_depth had) report.root.depth
+    limit = Reported said first
 
-    deep : HasAllDeep had
+    deep : HasAllDeep (client_tree c report)
     deep = deep_fold (trees_in c.revisions) top (λ _. None) report.grafts (λ q. refl) follows.2

@@ -1,6 +1,6 @@
 -- Where both sides are the same.
 use Rattle.drive_sides.specs.{Depths.IsWhole, Lines.KeepsLines, Pairs.{AreOnePair, IsOfAll, IsPairAt}, Plans.drive_trees, declared.pairs.EntryPair.EntryPair}
-use Rattle.std.proofs.Common.{◌≡◌, ◌<◌, ◌+◌, arith, if◌then◌else◌, ℕ, Bool, true, false, cond, ◌&&◌, ◌||◌, not, List, [], ◌∷◌, ◌++◌, length, drop, Option, Some, None, refl, sym}
+use Rattle.std.proofs.Common.{◌≡◌, ◌<◌, arith, if◌then◌else◌, ℕ, Bool, true, false, cond, ◌&&◌, ◌||◌, not, List, [], ◌∷◌, ◌++◌, length, drop, Option, Some, None, refl, sym}
 use Rattle.std.proofs.{Common.{ap, ◌∙◌, subst, option_map}, lemmas.Bool.false≢true, lemmas.List.{append_assoc, append-nil, length-append}}
 use Rattle.std.specs.{List.list_any, Prelude.{IfSome, IsSomeAnd, IsTrue, is_some, option_and_then}}
 use Rattle.svnpath.specs.{PathLaws.{under_append, under_is}, Paths.{Component, is_at_or_under, PathValue}}
@@ -14,7 +14,7 @@ use Rattle.history.proofs.AllLines.{one_line_met}
 use Rattle.drive_reports.proofs.{Aiming.{Line, all_stay, entry_beneath, keeps_line_in, line_beneath, same_kind, same_stays, stays_entry, stays_next}, Holding.{all_hold, longer_below}, Whole.in_whole}
 use Rattle.drive_reports.specs.{Aims.{aim_at, are_of_one_kind, counts_ancestry, is_of_line}, Places.{AllHoldTogether, in_place, is_grafted_over, reported_subtree}}
 use Rattle.drive_reports.specs.{Reported.{ReportedEntry, reported_entries, left_by, reported_as, top_entry}, Targets.{WholeReport, client_entries, client_tree, drive_scope}}
-use Rattle.drive_reports.specs.Targets.{is_apart, is_stale, is_stale_token, keeps_token, new_tree, old_tree, stale_in, target_entries}
+use Rattle.drive_reports.specs.Targets.{is_apart, is_stale, is_stale_token, keeps_report, new_tree, old_tree, stale_in, target_entries}
 use Rattle.drive_reports.specs.{declared.ask.DriveAsk.DriveAsk, declared.graft.Graft.Graft, declared.graft.Subtree.Subtree, declared.reported.ReportedPlace.ReportedPlace}
 
 none_over : (grafts : List Graft) (p q : PathValue) → list_any (λ (g : Graft). below p g.path) grafts ≡ false → is_grafted_over grafts p q ≡ false
@@ -150,7 +150,7 @@ module _ (s : RepoState) (report : WholeReport) (p : PathValue) (place : Reporte
   fresh_at : (rest : List Component) → stale_in s report (p ++ rest) ≡ false
   fresh_at rest =
       and_none (drive_scope s report (p ++ rest)) (is_stale s report (p ++ rest))
-      (and_none (keeps_token s report (p ++ rest)) _ (ap (is_stale_token s.locks (aim_at s report (p ++ rest)).from (target_entries s report (p ++ rest)))
+      (and_none (keeps_report s report (p ++ rest)) _ (ap (is_stale_token s.locks (aim_at s report (p ++ rest)).from (target_entries s report (p ++ rest)))
       (ap (option_and_then (λ (h : ReportedEntry). h.token)) (beneath rest (none_over report.grafts p (p ++ rest) none)) ∙ token_at rest)))
 
   -- where a place is the same as what is to be there, and the client has all of it, with no token

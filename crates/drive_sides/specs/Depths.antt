@@ -2,10 +2,10 @@
 use Rattle.std.specs.{Prelude.{◌≡◌, ◌⊎◌, true, false, List, [], ◌∷◌, ◌++◌, length, drop, is_some}, List.list_any}
 use Rattle.svnpath.specs.Paths.{Component, PathValue}
 use Rattle.repo_api.specs.States.{RepoState}
-use Rattle.drive_reports.specs.{Depths.{is_shallow, is_to_the_end}, Targets.{WholeReport, client_entries, drive_limit, drive_scope}}
+use Rattle.drive_reports.specs.{Depths.{is_shallow, is_to_the_end}, Targets.{WholeReport, client_entries, depth_inherited, drive_limit, drive_scope}}
 use Rattle.drive_reports.specs.{declared.ask.DepthAsked.DepthAsked, declared.ask.DepthAsked.TheVariants.{AsReported, Given}}
 use Rattle.drive_reports.specs.declared.reported.ReportedPlace.{ReportedPlace}
-use Rattle.drive_rules.specs.{Scopes.{depth_below, depth_said, DepthLimit, own_or_inherited, top_limit}, declared.depth.Depth.Depth}
+use Rattle.drive_rules.specs.{Scopes.{depth_said, DepthLimit, own_or_inherited, top_limit}, declared.depth.Depth.Depth}
 use Rattle.drive_rules.specs.declared.depth.Depth.TheVariants.{Empty, Files, Immediates, Infinity}
 use Rattle.drive_sides.specs.{declared.reach.Reach.Reach, declared.reach.Reach.TheVariants.{NoChild, ChildHad, AnyChild}}
 
@@ -24,18 +24,19 @@ abbrev pub IsAlone : ReportedPlace → Type 0
 IsAlone place = (place.starts_empty ≡ true) ⊎ (place.depth ≡ Empty)
 
 -- the depth of a directory that these names lead down to, from a directory of this depth
-abbrev pub depth_down : DepthLimit → PathValue → Depth → List Component → Depth
-depth_down limit here depth [] = depth
-depth_down limit here depth (c ∷ rest) =
+abbrev pub depth_down : (Depth → Depth) → DepthLimit → PathValue → Depth → List Component → Depth
+depth_down inherited limit here depth [] = depth
+depth_down inherited limit here depth (c ∷ rest) =
     let child = here ++ c ∷ [] in
-    depth_down limit child (own_or_inherited depth_below (depth_said limit child) depth) rest
+    depth_down inherited limit child (own_or_inherited inherited (depth_said limit child) depth)
+    rest
 
 -- how deep a drive goes from a directory at or under its target
 abbrev pub depth_at : RepoState → WholeReport → PathValue → Depth
 depth_at c report p =
     let top = report.ask.target in
-    depth_down (drive_limit c report) top (top_limit (drive_limit c report) top)
-    (drop (length top) p)
+    depth_down (depth_inherited report.ask) (drive_limit c report) top
+    (top_limit (drive_limit c report) top) (drop (length top) p)
 
 -- which children a drive of this depth can be of, by what is asked for
 abbrev pub reach_of : Depth → DepthAsked → Reach

@@ -99,7 +99,7 @@ impl<'a, R: Repository> TwoTrees<'a, R> {
     }
 
     /// Says what the directory at a path says of what is in it. To every other client all counts, and all may exist.
-    fn holder_at(&self, place: &DrivePlace) -> Holder
+    pub(crate) fn holder_at(&self, place: &DrivePlace) -> Holder
         requires { IsKnown (on_trees self.now IsKnownOf) place.now }
         ensures { result ≡ on_trees self.now holder_at place.now.path }
     {

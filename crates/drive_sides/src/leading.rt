@@ -36,7 +36,7 @@ fn led_to(own: Path, link: Option<&Graft>) -> Result<Path, AllocError>
 }
 
 /// Gives a kind, or that of nothing, where something does not hold.
-fn kind_if(holds: bool, kind: NodeKind) -> NodeKind
+pub(crate) fn kind_if(holds: bool, kind: NodeKind) -> NodeKind
     ensures { (e : Option Entry) → kind ≡ kind_of e → result ≡ kind_of (if holds then e else None) }
 {
     if holds { kind } else { NodeKind::Absent }

@@ -2,15 +2,16 @@
 ghost use Rattle.std.specs.Prelude.{◌≡◌, true, Option, IfOk};
 ghost use Rattle.svnpath.specs.Paths.{is_at_or_under};
 ghost use Rattle.repo_api.specs.{Kinds.kind_of, declared.entry.Entry.Entry};
-ghost use Rattle.drive_rules.specs.Scopes.{depth_below, depth_said, includes, includes_child, keeps_reported, own_or_inherited, top_limit};
-ghost use Rattle.drive_reports.specs.Targets.{client_tree, drive_scope, reported_depth, drive_limit, client_entries, target_entries};
-ghost use Rattle.reporter.specs.Knowing.{IsKnown};
+ghost use Rattle.drive_rules.specs.Scopes.{depth_added, depth_below, depth_said, includes, includes_child, keeps_reported, own_or_inherited, top_limit};
+ghost use Rattle.drive_reports.specs.Targets.{client_tree, counted_entries, depth_inherited, depth_kept, drive_limit, drive_scope, first_depth, reported_depth, target_entries};
+ghost use Rattle.reporter.specs.{Knowing.IsKnown, Walks.IsChild};
 ghost use Rattle.drive_sides.specs.{Known.IsKnownOf, OnTrees.on_trees, Pairs.IsOfAll, Plans.whole, Depths.{depth_at, FollowsWholeReport, Reaches}};
 
 use crate::known::DrivePlace;
+use crate::leading::kind_if;
 use crate::reach::{Reach, reach_of};
 use crate::two_trees::TwoTrees;
-use drive_reports::{DepthAsked, is_to_the_end};
+use drive_reports::{DepthAsked, DriveAsk, is_to_the_end};
 use drive_rules::Depth;
 use repo_api::{NodeKind, Repository};
 use std::alloc::{AllocError, Global};
@@ -28,18 +29,48 @@ fn includes_child(depth: Depth, old: NodeKind, new: NodeKind) -> bool
     }
 }
 
-/// Gives the depth that was said of a directory, or else what its parent's depth leaves it.
-fn own_or_inherited(said: Option<Depth>, above: Depth) -> Depth
-    ensures { result ≡ own_or_inherited depth_below said above }
+/// Gives what a client of today takes a directory for that is added in a directory of a depth.
+fn depth_added(above: Depth) -> Depth
+    ensures { result ≡ depth_added above }
+{
+    match above {
+        Depth::Immediates => Depth::Empty,
+        Depth::Infinity => Depth::Infinity,
+        Depth::Files => Depth::Infinity,
+        Depth::Empty => Depth::Infinity,
+    }
+}
+
+/// Gives what a depth leaves a directory of which none was said.
+fn depth_below(above: Depth) -> Depth
+    ensures { result ≡ depth_below above }
+{
+    match above {
+        Depth::Infinity => Depth::Infinity,
+        Depth::Immediates => Depth::Empty,
+        Depth::Files => Depth::Empty,
+        Depth::Empty => Depth::Empty,
+    }
+}
+
+/// Gives what a directory inherits of its parent's depth.
+fn depth_inherited(ask: &DriveAsk, above: Depth) -> Depth
+    ensures { result ≡ depth_inherited ask.now above }
+{
+    if ask.is_of_today {
+        depth_added(above)
+    } else {
+        depth_below(above)
+    }
+}
+
+/// Gives the depth that was said of a directory, or else what it inherits of its parent's.
+fn own_or_inherited(ask: &DriveAsk, said: Option<Depth>, above: Depth) -> Depth
+    ensures { result ≡ own_or_inherited (depth_inherited ask.now) said above }
 {
     match said {
         Some(depth) => depth,
-        None => match above {
-            Depth::Infinity => Depth::Infinity,
-            Depth::Immediates => Depth::Empty,
-            Depth::Files => Depth::Empty,
-            Depth::Empty => Depth::Empty,
-        },
+        None => depth_inherited(ask, above),
     }
 }
 
@@ -69,45 +100,72 @@ fn asks_as_reported(depth: DepthAsked) -> bool
 }
 
 impl<'a, R: Repository> TwoTrees<'a, R> {
-    /// Finds the depth that was reported of a directory.
-    fn reported_depth(&self, alloc: Global, path: &Path) -> Result<Option<Depth>, AllocError>
-        ensures { IfOk result (λ d. d ≡ reported_depth (on_trees self.now client_tree) path.now) }
+    /// Gives the depth that was reported of a directory.
+    fn reported_depth(&self, place: &DrivePlace) -> Option<Depth>
+        requires { IsKnown (on_trees self.now IsKnownOf) place.now }
+        ensures { result ≡ reported_depth (on_trees self.now client_tree) place.now.path }
     {
-        match self.client_place(alloc, path)? {
-            None => Ok(None),
-            Some(place) => {
-                if self.view.kind(place.revision, &place.path).is_directory() {
-                    Ok(Some(place.depth))
+        match &place.known.had {
+            None => None,
+            Some(had) => {
+                if self.view.kind(had.revision, &had.path).is_directory() {
+                    Some(had.depth)
                 } else {
-                    Ok(None)
+                    None
                 }
             }
         }
     }
 
-    /// Finds the depth that was said of a directory.
-    fn own_depth(&self, alloc: Global, path: &Path) -> Result<Option<Depth>, AllocError>
-        ensures { IfOk result (λ d. d ≡ depth_said (on_trees self.now drive_limit) path.now) }
+    /// Gives the depth that was reported of a directory, where that holds of what is to be there.
+    fn depth_kept(&self, place: &DrivePlace) -> Option<Depth>
+        requires { IsKnown (on_trees self.now IsKnownOf) place.now }
+        ensures { result ≡ on_trees self.now depth_kept place.now.path }
     {
-        match self.report.ask.depth {
-            DepthAsked::Given(_) => Ok(None),
-            DepthAsked::AsReported => self.reported_depth(alloc, path),
+        if self.keeps_report(place) {
+            self.reported_depth(place)
+        } else {
+            None
         }
     }
 
-    /// Finds the depth of the top.
-    fn top_limit(&self, alloc: Global) -> Result<Depth, AllocError>
-        ensures { IfOk result (λ d. d ≡ top_limit (on_trees self.now drive_limit)
-            self.now.report.now.ask.target) }
+    /// Gives the depth that was said of a directory.
+    fn own_depth(&self, place: &DrivePlace) -> Option<Depth>
+        requires { IsKnown (on_trees self.now IsKnownOf) place.now }
+        ensures { result ≡ depth_said (on_trees self.now drive_limit) place.now.path }
     {
         match self.report.ask.depth {
-            DepthAsked::Given(depth) => Ok(depth),
-            DepthAsked::AsReported => {
-                match self.reported_depth(alloc, self.report.ask.target.as_path())? {
-                    Some(depth) => Ok(depth),
-                    None => Ok(self.root.depth),
-                }
-            }
+            DepthAsked::Given(_) => None,
+            DepthAsked::AsReported => self.depth_kept(place),
+        }
+    }
+
+    /// Gives the depth of a target of which none was reported that holds.
+    fn first_depth(&self, top: &DrivePlace) -> Depth
+        requires known { IsKnown (on_trees self.now IsKnownOf) top.now }
+        requires top { top.now.path ≡ self.now.report.now.ask.target }
+        ensures { result ≡ on_trees self.now first_depth }
+    {
+        if top.known.had.is_some() && !self.keeps_report(top) {
+            Depth::Infinity
+        } else {
+            self.root.depth
+        }
+    }
+
+    /// Gives the depth of the top.
+    fn top_limit(&self, top: &DrivePlace) -> Depth
+        requires known { IsKnown (on_trees self.now IsKnownOf) top.now }
+        requires top { top.now.path ≡ self.now.report.now.ask.target }
+        ensures { result ≡ top_limit (on_trees self.now drive_limit)
+            self.now.report.now.ask.target }
+    {
+        match self.report.ask.depth {
+            DepthAsked::Given(depth) => depth,
+            DepthAsked::AsReported => match self.depth_kept(top) {
+                Some(depth) => depth,
+                None => self.first_depth(top),
+            },
         }
     }
 
@@ -122,14 +180,26 @@ impl<'a, R: Repository> TwoTrees<'a, R> {
         }
     }
 
-    /// Says whether a directory of this depth lets its child at this path into the scope.
-    fn includes(&self, depth: Depth, child: &DrivePlace) -> bool
-        requires { IsKnown (on_trees self.now IsKnownOf) child.now }
+    /// Gives the kind of what counts of what the client has in a directory.
+    fn counted_kind(&self, place: &DrivePlace, child: &DrivePlace) -> NodeKind
+        requires place { IsKnown (on_trees self.now IsKnownOf) place.now }
+        requires child { IsKnown (on_trees self.now IsKnownOf) child.now }
+        requires inside { IsChild place.now.path child.now.path }
+        ensures { result ≡ kind_of (on_trees self.now counted_entries child.now.path) }
+    {
+        kind_if(self.holder_at(place).counts, self.kind_had(child))
+    }
+
+    /// Says whether a directory of this depth lets its child into the scope.
+    fn includes(&self, depth: Depth, place: &DrivePlace, child: &DrivePlace) -> bool
+        requires place { IsKnown (on_trees self.now IsKnownOf) place.now }
+        requires child { IsKnown (on_trees self.now IsKnownOf) child.now }
+        requires inside { IsChild place.now.path child.now.path }
         ensures { result ≡ includes (on_trees self.now drive_limit)
-            (on_trees self.now client_entries) (on_trees self.now target_entries) depth
+            (on_trees self.now counted_entries) (on_trees self.now target_entries) depth
             child.now.path }
     {
-        let old = self.kind_had(child);
+        let old = self.counted_kind(place, child);
         includes_child(depth, old, self.kind_to_be(child)) || self.keeps_reported(old)
     }
 
@@ -139,15 +209,16 @@ impl<'a, R: Repository> TwoTrees<'a, R> {
         ensures { IfOk result (λ answer. answer ≡ on_trees self.now drive_scope path.now) }
     {
         let target = self.report.ask.target.as_path();
-        let mut depth = self.top_limit(alloc)?;
         let mut here = self.top_place(alloc)?;
+        let mut depth = self.top_limit(&here);
         for name in &path.components()[target.len()..] {
             let child = here.path.child(alloc, name.clone()?)?;
-            here = self.child_place(alloc, &here, child)?;
-            if !self.includes(depth, &here) {
+            let next = self.child_place(alloc, &here, child)?;
+            if !self.includes(depth, &here, &next) {
                 return Ok(false);
             }
-            depth = own_or_inherited(self.own_depth(alloc, &here.path)?, depth);
+            depth = own_or_inherited(&self.report.ask, self.own_depth(&next), depth);
+            here = next;
         }
         Ok(true)
     }
@@ -187,17 +258,19 @@ impl<'a, R: Repository> TwoTrees<'a, R> {
         }
         self.stays_in_scope(alloc, path)
     }
+
     /// Finds how deep a drive goes from a directory at or under its target.
     fn depth_at(&self, alloc: Global, path: &Path) -> Result<Depth, AllocError>
         requires { is_at_or_under path.now self.now.report.now.ask.target ≡ true }
         ensures { IfOk result (λ d. d ≡ on_trees self.now depth_at path.now) }
     {
         let target = self.report.ask.target.as_path();
-        let mut depth = self.top_limit(alloc)?;
-        let mut here = target.clone()?;
+        let mut here = self.top_place(alloc)?;
+        let mut depth = self.top_limit(&here);
         for name in &path.components()[target.len()..] {
-            here = here.child(alloc, name.clone()?)?;
-            depth = own_or_inherited(self.own_depth(alloc, &here)?, depth);
+            let child = here.path.child(alloc, name.clone()?)?;
+            here = self.child_place(alloc, &here, child)?;
+            depth = own_or_inherited(&self.report.ask, self.own_depth(&here), depth);
         }
         Ok(depth)
     }

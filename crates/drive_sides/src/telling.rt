@@ -1,7 +1,7 @@
 //! What the entries of a drive are told, and what else is to be known of them.
 ghost use Rattle.std.specs.Prelude.{◌≡◌, true, IfOk, option_and_then, option_map};
 ghost use Rattle.reporter.specs.Knowing.{IsKnown};
-ghost use Rattle.drive_reports.specs.Targets.{client_tree, drive_scope, is_stale, keeps_token, new_tree, stale_in};
+ghost use Rattle.drive_reports.specs.Targets.{client_tree, drive_scope, is_stale, keeps_report, new_tree, stale_in};
 ghost use Rattle.drive_news.specs.{News.{news_at, news_of}, Places.entry_had};
 ghost use Rattle.drive_sides.specs.{Known.IsKnownOf, OnTrees.on_trees};
 
@@ -13,10 +13,10 @@ use repo_api::Repository;
 use std::alloc::{AllocError, Global};
 
 impl<'a, R: Repository> TwoTrees<'a, R> {
-    /// Says whether what is reported of a path keeps its token: to a client of today only where it stays.
-    fn keeps_token(&self, place: &DrivePlace) -> bool
+    /// Says whether what is reported of a path holds of what is to be there: of a client of today only where it stays.
+    pub(crate) fn keeps_report(&self, place: &DrivePlace) -> bool
         requires { IsKnown (on_trees self.now IsKnownOf) place.now }
-        ensures { result ≡ on_trees self.now keeps_token place.now.path }
+        ensures { result ≡ on_trees self.now keeps_report place.now.path }
     {
         !self.report.ask.is_of_today || place.known.stays
     }
@@ -26,7 +26,7 @@ impl<'a, R: Repository> TwoTrees<'a, R> {
         requires { IsKnown (on_trees self.now IsKnownOf) place.now }
         ensures { result ≡ on_trees self.now is_stale place.now.path }
     {
-        if !self.keeps_token(place) {
+        if !self.keeps_report(place) {
             return false;
         }
         let Some(had) = &place.known.had else {

@@ -1,6 +1,6 @@
 use Rattle.std.proofs.Common.{◌∙◌, ◌++◌, ◌∷◌, [], ap}
-use Rattle.drive_rules.specs.Scopes.{depth_below, own_or_inherited}
-use Rattle.drive_reports.specs.Targets.{client_entries, drive_limit, target_entries}
+use Rattle.drive_rules.specs.Scopes.{own_or_inherited}
+use Rattle.drive_reports.specs.Targets.{counted_entries, depth_inherited, drive_limit, target_entries}
 use Rattle.drive_sides.specs.Plans.{whole}
 use Rattle.drive_sides.proofs.Reaching.{stops, goes_on, ends}
 use Rattle.drive_sides.proofs.two_trees.TwoTrees.stays_in_scope.Goals as goal
@@ -12,27 +12,31 @@ child_place-requires g c = record {
 }
 
 pub includes-requires : goal.includes-requires
-includes-requires g c = c.in_ok-here-2.ensures.1
+includes-requires g c = record {
+  place = c.loop-name.invariant.1;
+  child = c.in_ok-next.ensures.1;
+  inside = (c.in_ok-clone.field-0, c.in_ok-next.ensures.0 ∙ c.in_ok-child.ensures);
+}
 
 pub returns-then-not-includes : goal.returns-then-not-includes
 returns-then-not-includes g c =
     let state = g.R.Repository.content c.args.self.now.view.now in
     let report = whole c.args.self.now.report.now c.args.self.now.root in
-    stops (drive_limit state report) (client_entries state report) (target_entries state report) report.ask.target c.args.path.now c.loop-name.here.path c.in_ok-here-2.here.path c.loop-name.depth _ c.loop-name.name-index c.name-item.result c.includes.result c.requires c.loop-name.invariant.0 c.loop-name-test.true c.name-item.is
-    (c.in_ok-here-2.ensures.0 ∙ c.in_ok-child.ensures ∙ ap (λ x. c.loop-name.here.path ++ x ∷ []) c.in_ok-clone.ensures.cases) c.includes.ensures c.if-not-includes.true
+    stops (depth_inherited report.ask) (drive_limit state report) (counted_entries state report) (target_entries state report) report.ask.target c.args.path.now c.loop-name.here.path c.in_ok-next.next.path c.loop-name.depth _ c.loop-name.name-index c.name-item.result c.includes.result c.requires c.loop-name.invariant.0 c.loop-name-test.true c.name-item.is
+    (c.in_ok-next.ensures.0 ∙ c.in_ok-child.ensures ∙ ap (λ x. c.loop-name.here.path ++ x ∷ []) c.in_ok-clone.ensures.cases) c.includes.ensures c.if-not-includes.true
 
 pub loop-name-preserved : goal.loop-name-preserved
 loop-name-preserved g c =
     let state = g.R.Repository.content c.args.self.now.view.now in
     let report = whole c.args.self.now.report.now c.args.self.now.root in (
-      goes_on (drive_limit state report) (client_entries state report) (target_entries state report) report.ask.target c.args.path.now c.loop-name.here.path c.in_ok-here-2.here.path c.loop-name.depth c.own_or_inherited-depth.result _ c.loop-name.name-index c.name-item.result c.includes.result c.loop-name.invariant.0 c.loop-name-test.true c.name-item.is
-          (c.in_ok-here-2.ensures.0 ∙ c.in_ok-child.ensures ∙ ap (λ x. c.loop-name.here.path ++ x ∷ []) c.in_ok-clone.ensures.cases) c.includes.ensures c.if-not-includes.false
-          (c.own_or_inherited-depth.ensures ∙ ap (λ o. own_or_inherited depth_below o c.loop-name.depth) c.in_ok-own_depth.ensures),
-      c.in_ok-here-2.ensures.1,
+      goes_on (depth_inherited report.ask) (drive_limit state report) (counted_entries state report) (target_entries state report) report.ask.target c.args.path.now c.loop-name.here.path c.in_ok-next.next.path c.loop-name.depth c.own_or_inherited-depth.result _ c.loop-name.name-index c.name-item.result c.includes.result c.loop-name.invariant.0 c.loop-name-test.true c.name-item.is
+          (c.in_ok-next.ensures.0 ∙ c.in_ok-child.ensures ∙ ap (λ x. c.loop-name.here.path ++ x ∷ []) c.in_ok-clone.ensures.cases) c.includes.ensures c.if-not-includes.false
+          (c.own_or_inherited-depth.ensures ∙ ap (λ o. own_or_inherited (depth_inherited report.ask) o c.loop-name.depth) c.own_depth.ensures),
+      c.in_ok-next.ensures.1,
     )
 
 pub returns : goal.returns
 returns g c =
     let state = g.R.Repository.content c.args.self.now.view.now in
     let report = whole c.args.self.now.report.now c.args.self.now.root in
-    ends (drive_limit state report) (client_entries state report) (target_entries state report) report.ask.target c.args.path.now c.loop-name.here.path c.loop-name.depth _ c.loop-name.name-index c.requires c.loop-name.invariant.0 c.loop-name-test.false
+    ends (depth_inherited report.ask) (drive_limit state report) (counted_entries state report) (target_entries state report) report.ask.target c.args.path.now c.loop-name.here.path c.loop-name.depth _ c.loop-name.name-index c.requires c.loop-name.invariant.0 c.loop-name-test.false

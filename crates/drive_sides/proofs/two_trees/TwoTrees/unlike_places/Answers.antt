@@ -1,10 +1,9 @@
-use Rattle.std.proofs.{lemmas.List.Elements.{All-head, All-nil, All-tail}, lemmas.List.append-nil, Common.{List, rules, ◌∷◌, ◌++◌, [], refl, subst, sym}}
+use Rattle.std.proofs.{lemmas.List.Elements.{All-head, All-nil, All-tail}, lemmas.List.append-nil, Common.{rules, ◌∷◌, ◌++◌, [], subst, sym}}
 use Rattle.std.specs.Prelude.{All}
-use Rattle.svnpath.specs.Paths.{PathValue}
 use Rattle.reporter.proofs.Knowing.{push_known}
-use Rattle.reporter.specs.{Knowing.{AreKnown, IsKnown, IsKnownAt, paths_of}, Walks.{AreAlike, IsChild, LeavesUnlike}}
+use Rattle.reporter.specs.{Knowing.{AreKnown, IsKnown, paths_of}, Walks.{IsChild, LeavesUnlike}}
 use Rattle.drive_sides.specs.{Known.IsKnownOf, Plans.{drive_trees, whole}}
-use Rattle.drive_sides.proofs.Knowing.{all_left, next_in, next_out, none_out, paths_more}
+use Rattle.drive_sides.proofs.Knowing.{next_in, next_out, none_out, paths_more}
 use Rattle.drive_sides.proofs.two_trees.TwoTrees.unlike_places.Goals as goal
 
 pub loop-path-init : goal.loop-path-init
