@@ -158,12 +158,23 @@ def kind_of(node):
 
 
 class Had(NamedTuple):
-    """What a client has at a path: an entry of a revision, the token of a lock, and how much of what is in a directory."""
+    """What a client has at a path: an entry of a revision, the token of a lock, and how much of what is in a directory. `starts_empty`
+    where it is a directory that was itself reported to start empty."""
 
     node: Node
     revision: int
     token: Optional[str] = None
     depth: str = "infinity"
+    starts_empty: bool = False
+
+
+class Place(NamedTuple):
+    """A path that was reported: the path of the repository that it stands for, whether it is a link, and whether it is excluded."""
+
+    path: str
+    source: str
+    is_link: bool = False
+    is_excluded: bool = False
 
 
 class Aim(NamedTuple):
@@ -199,7 +210,7 @@ class Report:
         self.refusal = None
         self.refused_at = None
         self.first = None
-        # each path that was reported, with the path of the repository that it stands for, and whether it is a link, in their order
+        # each path that was reported, in their order
         self.places = []
         self.had = {}
         self.sent = [self.beginning(target, revision, url, recurse, depth)]
@@ -283,21 +294,25 @@ class Report:
         path = self.path(text)
         source = self.source(path) if url is None else path_of_url(url)
         self.known(revision)
-        if depth in ("unknown", "exclude"):
+        if self.of_today and url is not None and path == "":
+            raise Refused(MALFORMED)
+        is_excluded = depth == "exclude" and self.may_exclude(path, url)
+        if depth in ("unknown", "exclude") and not is_excluded:
             raise Refused(NOT_SUPPORTED)
-        depth = depth or "infinity"
+        # of what is excluded the top alone is there
+        depth = "empty" if is_excluded else depth or "infinity"
         if path != self.target and not self.is_directory(parent_of(path)):
             raise Refused(NOT_FOUND, joined(self.anchor, path))
         tree = self.revisions.trees[revision]
-        may_lack = self.first is None and self.target != ""
+        may_lack = is_excluded or self.first is None and self.target != ""
         if source not in tree and not may_lack:
             raise Refused(NOT_FOUND, source)
-        self.put(path, source, url is not None)
+        self.put(Place(path, source, url is not None, is_excluded))
         for place, node in tree.items():
             if place == source:
                 # a client that checks a directory out, or whose checkout was interrupted, has none of its properties yet
                 is_bare = starts_empty and node.text is None
-                self.had[path] = Had(node._replace(properties=()) if is_bare else node, revision, token, depth)
+                self.had[path] = Had(node._replace(properties=()) if is_bare else node, revision, token, depth, is_bare)
             elif is_at_or_under(place, source) and not starts_empty and self.is_left(place, source, node, depth):
                 self.had[joined(path, beyond(place, source))] = Had(node, revision, None, depth_below(depth))
         if self.first is None:
@@ -307,6 +322,10 @@ class Report:
         """Whether a depth leaves an entry that stands beneath the top."""
         is_in_top = parent_of(place) == source
         return depth == "infinity" or is_in_top and (depth == "immediates" or depth == "files" and node.text is not None)
+
+    def may_exclude(self, path, url):
+        """Whether a path can be excluded: by a client of today, if it is not the target's and not a link's."""
+        return self.of_today and path != self.target and url is None
 
     def names_top(self, text):
         """Whether a text names the target; one that names no path does not."""
@@ -321,12 +340,12 @@ class Report:
         path = self.path(text)
         if path == "":
             raise Refused(MALFORMED)
-        self.put(path, self.source(path), False)
+        self.put(Place(path, self.source(path)))
 
-    def put(self, path, source, is_link):
+    def put(self, place):
         """What stood at a path is gone, and it stands for another path of the repository."""
-        self.had = {there: had for there, had in self.had.items() if not is_at_or_under(there, path)}
-        self.places.append((path, source, is_link))
+        self.had = {there: had for there, had in self.had.items() if not is_at_or_under(there, place.path)}
+        self.places.append(place)
 
     def is_directory(self, path):
         """Whether the client has a directory there."""
@@ -337,17 +356,27 @@ class Report:
         if path == self.target:
             return joined(self.anchor, path)
         parent = parent_of(path)
-        for top, source, _ in reversed(self.places):
-            if is_at_or_under(parent, top):
-                return joined(source, beyond(path, top))
-        return joined(self.anchor, path)
+        last = self.last_place(parent)
+        return joined(self.anchor, path) if last is None else joined(last.source, beyond(path, last.path))
+
+    def last_place(self, path):
+        """The last that was reported at or above a path."""
+        return next((place for place in reversed(self.places) if is_at_or_under(path, place.path)), None)
+
+    def own_place(self, path):
+        """The last that was reported at or above a path, if it is of this very path."""
+        last = self.last_place(path)
+        return last if last is not None and last.path == path else None
 
     def link(self, path):
         """The path of the repository to which a link of this very path leads it, if the last that was reported is one."""
-        for top, source, is_link in reversed(self.places):
-            if is_at_or_under(path, top):
-                return source if is_link and top == path and path else None
-        return None
+        own = self.own_place(path)
+        return own.source if own is not None and own.is_link else None
+
+    def is_excluded(self, path):
+        """Whether the last that was reported at or above a path excludes this very path."""
+        own = self.own_place(path)
+        return own is not None and own.is_excluded
 
     # The end.
 
@@ -373,7 +402,7 @@ class Report:
             stays = is_of_one_kind and (may_change_line or had.line == node.line)
             # a link goes where nothing of its kind is
             aims[path] = Aim(place, node if link is None or is_of_one_kind else None, counts, stays)
-            there = {beyond(other, path) for other in [*self.had, *(top for top, _, _ in self.places)] if is_at_or_under(other, path)}
+            there = {beyond(other, path) for other in [*self.had, *(top.path for top in self.places)] if is_at_or_under(other, path)}
             there |= {beyond(other, place) for other in tree if is_at_or_under(other, place)}
             for name in {rest.split("/")[0] for rest in there if rest}:
                 left.append((joined(path, name), joined(place, name), stays, kind_of(aims[path].node) == "dir"))
@@ -418,8 +447,15 @@ class Report:
             return "empty" if above == "immediates" else "infinity"
         return depth_below(above)
 
+    def is_hidden(self, path):
+        """Whether nothing is said of a path and of what is under it: a client of today has excluded it, that counts, and something is
+        to stand there."""
+        return self.of_today and self.is_excluded(path) and self.aims[path].counts and self.aims[path].node is not None
+
     def lets_in(self, limit, child):
         """Whether the drive is of an entry of a directory with this limit."""
+        if self.is_hidden(child):
+            return False
         counts = child in self.had and (not self.of_today or self.aims[child].counts)
         if self.depth == "unknown" and counts:
             return True
@@ -444,11 +480,14 @@ class Report:
             return self.refusal
         tree = self.revisions.trees[self.revision]
         has_goal = self.purpose != "switch" or self.goal in tree
+        return None if has_goal and self.has_anchor(tree) else NOT_FOUND
+
+    def has_anchor(self, tree):
+        """Whether there is a directory in which the target is, or that is the target. A client of today needs none for a target that
+        it names: where its directory is gone, so is the target."""
         if self.target:
-            has_anchor = kind_of(tree.get(self.anchor)) == "dir"
-        else:
-            has_anchor = kind_of(tree.get(self.goal)) == "dir" and self.is_directory("")
-        return None if has_goal and has_anchor else NOT_FOUND
+            return self.of_today or kind_of(tree.get(self.anchor)) == "dir"
+        return kind_of(tree.get(self.goal)) == "dir" and self.is_directory("")
 
     def refusal_told(self):
         """What is told where there is no drive: a client of today, at which path what is not there is not there; of what is
@@ -479,6 +518,14 @@ class Report:
         token = self.old[path].token if path in self.old and not (self.of_today and self.is_apart(path)) else None
         place = self.aims[path].place if self.of_today else joined(self.goal, beyond(path, self.target))
         return token is not None and path in self.new and self.revisions.tokens.get(place) != token
+
+    def is_written_anew(self, path):
+        """Whether a client of today has a directory that stays, and that it writes down anew, whatever differs in it: one that started
+        empty, which it takes for whole from then on, or one that was less deep than infinity, the depth that is asked for."""
+        if not self.of_today or path not in self.old or not self.is_directory(path) or self.is_apart(path):
+            return False
+        had = self.old[path]
+        return had.starts_empty or self.depth == "infinity" and had.depth != "infinity"
 
     def judge(self, told):
         """What is wrong with an answer to the end of this report, a line each."""
@@ -530,7 +577,8 @@ class Drive:
             return new is not had
         old = had.node
         is_same = (old.text, old.properties, old.last[0]) == (new.text, new.properties, new.last[0])
-        return not is_same or self.report.is_stale(path) or self.report.is_apart(path)
+        is_due = self.report.is_stale(path) or self.report.is_written_anew(path)
+        return not is_same or is_due or self.report.is_apart(path)
 
     def children(self, path):
         """The paths of what stands in a directory now or then, by the bytes of the names."""
@@ -791,7 +839,8 @@ class Judge:
                 is_right = is_right and (without_texts or made[0] == wanted.text)
             self.judge(is_right, f"what is made of it is not what it should be: {path!r}")
             is_in_both = path in old and path in new
-            is_due = is_in_both and (old[path].last[0] != new[path].last[0] or report.is_stale(path))
+            is_changed = is_in_both and old[path].last[0] != new[path].last[0]
+            is_due = is_changed or is_in_both and (report.is_stale(path) or report.is_written_anew(path))
             self.judge(path in self.named or not is_due, f"nothing is told of it: {path!r}")
             is_other = path not in old or report.is_apart(path) or old[path].text != new[path].text
             wants_text = path in new and new[path].text is not None and is_other
@@ -807,6 +856,7 @@ class Judge:
                 or old[place][:2] != new[place][:2]
                 or old[place].last != new[place].last
                 or report.is_stale(place)
+                or report.is_written_anew(place)
                 or report.is_apart(place)
                 for place in {*old, *new}
                 if is_at_or_under(place, path)

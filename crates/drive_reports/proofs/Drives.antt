@@ -4,11 +4,11 @@ use Rattle.std.proofs.{Common.if◌then◌else◌, lemmas.Bool.false≢true, lem
 use Rattle.std.specs.{Prelude.{IsTrue, IsSome, IsSomeAnd, is_some, option_and_then, slice_get}, FinMap.get-empty}
 use Rattle.svnpath.specs.{PathLaws.{rest_append, under_append, under_is}, Paths.{is_at_or_under, path_cmp, PathValue}}
 use Rattle.repo_api.specs.{Soundness.AreTrees, States.{RepoState, Revision, tree_in, tree_of, trees_in}, Trees.{HasDirectory, is_directory}, declared.entry.Entry.Entry}
-use Rattle.drive_rules.specs.Scopes.{below, hides_nothing, HoldsTogether}
+use Rattle.drive_rules.specs.Scopes.{below, HoldsTogether}
 use Rattle.drive_rules.proofs.{Entries.below_under, Joined.and_front, Trees.{tree_holds, scope_holds}}
 use Rattle.small_rules.specs.GivingWay.{gives_way}
 use Rattle.drive_reports.specs.{Aims.{aim_at, are_of_one_kind}, Reported.{ReportedEntry, reported_entries}, Wholes.{WholeReport, client_tree, goal_path, target_tree}}
-use Rattle.drive_reports.specs.Targets.{client_entries, counted_entries, depth_inherited, drive_limit, drive_scope, is_apart, is_stale, is_stale_token, new_tree, old_tree, target_entries}
+use Rattle.drive_reports.specs.Targets.{client_entries, counted_entries, depth_inherited, drive_limit, drive_scope, is_apart, is_hidden, is_stale, is_stale_token, new_tree, old_tree, target_entries}
 use Rattle.drive_reports.specs.declared.ask.DriveAsk.{DriveAsk}
 use Rattle.drive_reports.proofs.{Aiming.{gives_or_stays, other_entry, other_from, other_stays, today_holds}, Holding.{all_hold, longer_below, below_longer}}
 
@@ -63,9 +63,9 @@ entries_hold c report trees = by report.ask.is_of_today refl
 pub both_hold : (c : RepoState) (report : WholeReport) → AreTrees c.revisions
     → HoldsTogether report.ask.target (old_tree c report) × HoldsTogether report.ask.target (new_tree c report)
 both_hold c report trees = (
-  scope_holds hides_nothing (depth_inherited report.ask) (drive_limit c report) (counted_entries c report) (target_entries c report) (reported_entries (client_tree c report)) report.ask.target
+  scope_holds (is_hidden c report) (depth_inherited report.ask) (drive_limit c report) (counted_entries c report) (target_entries c report) (reported_entries (client_tree c report)) report.ask.target
       (all_hold (trees_in c.revisions) report.ask.target report.grafts (revisions_hold c trees)),
-  scope_holds hides_nothing (depth_inherited report.ask) (drive_limit c report) (counted_entries c report) (target_entries c report) (target_entries c report) report.ask.target (entries_hold c report trees),
+  scope_holds (is_hidden c report) (depth_inherited report.ask) (drive_limit c report) (counted_entries c report) (target_entries c report) (target_entries c report) report.ask.target (entries_hold c report trees),
 )
 
 -- ---- every other client

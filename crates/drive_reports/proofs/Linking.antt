@@ -1,11 +1,11 @@
--- The last graft at or above a path, and the link that leads a path.
+-- The last graft at or above a path, the link that leads a path, and the paths that are excluded.
 use Rattle.std.proofs.Common.{◌≡◌, ℕ, zero, suc, ◌<◌, arith, Bool, true, false, ◌&&◌, ◌||◌, List, [], ◌∷◌, length, get_or, Option, Some, None, refl, sym, ap, ◌∙◌}
 use Rattle.std.proofs.{Common.if◌then◌else◌, lemmas.Bool.false≢true, lemmas.Option.{slice_get_read, slice_get_within}}
-use Rattle.std.specs.{List.list_any, Option.option_map_or, Prelude.{fold, map, not, slice_get}}
+use Rattle.std.specs.{List.list_any, Option.option_map_or, Prelude.{fold, is_some, map, not, slice_get}}
 use Rattle.svnpath.specs.{PathLaws.{same_path_is, same_path_refl}, Paths.{is_at_or_under, PathValue, same_path}}
 use Rattle.drive_rules.proofs.Joined.{or_false}
 use Rattle.drive_rules.specs.Scopes.{below}
-use Rattle.drive_reports.specs.{Finding.IsLastAbove, Links.{follows_links, is_linked, last_graft, later_graft, link_at, may_lead, own_graft}, declared.ask.DriveAsk.DriveAsk, declared.graft.Graft.Graft}
+use Rattle.drive_reports.specs.{Finding.IsLastAbove, Links.{follows_links, is_excluded_at, is_excluding, is_linked, last_graft, later_graft, link_at, may_lead, own_graft}, declared.ask.DriveAsk.DriveAsk, declared.graft.Graft.Graft}
 
 -- ---- the last graft, by its place in the order
 
@@ -53,18 +53,22 @@ none_passes test q (g ∷ gs) found none so =
     by true = (or_false (test g) (list_any test gs) none).0
     by false = so
 
--- and so none is the link of a path, if each link of it would pass
-none_own : (test : Graft → Bool) (p : PathValue) (found : Option Graft) → ((g : Graft) → same_path g.path p ≡ true → test g ≡ false → is_linked g ≡ false)
-    → option_map_or test found false ≡ false → own_graft is_linked p found ≡ None
-none_own test p None passes none = refl
-none_own test p (Some g) passes none = by (same_path g.path p) refl
+-- and so none is of a path and of one kind, if each such of it would pass
+none_own : (kind test : Graft → Bool) (p : PathValue) (found : Option Graft) → ((g : Graft) → same_path g.path p ≡ true → test g ≡ false → kind g ≡ false)
+    → option_map_or test found false ≡ false → own_graft kind p found ≡ None
+none_own kind test p None passes none = refl
+none_own kind test p (Some g) passes none = by (same_path g.path p) refl
   where
-    by : (b : Bool) → same_path g.path p ≡ b → (if b && is_linked g then Some g else None) ≡ None
+    by : (b : Bool) → same_path g.path p ≡ b → (if b && kind g then Some g else None) ≡ None
     by true same = ap (λ l. if l then Some g else None) (passes g same none)
     by false same = refl
 
 pub no_link : (p : PathValue) (gs : List Graft) → list_any is_linked gs ≡ false → own_graft is_linked p (last_graft p gs) ≡ None
-no_link p gs none = none_own is_linked p (last_graft p gs) (λ g same free. free) (none_passes is_linked p gs None none refl)
+no_link p gs none = none_own is_linked is_linked p (last_graft p gs) (λ g same free. free) (none_passes is_linked p gs None none refl)
+
+pub none_excluded : (p : PathValue) (gs : List Graft) → list_any is_excluding gs ≡ false → is_excluded_at gs p ≡ false
+none_excluded p gs none =
+    ap is_some (none_own is_excluding is_excluding p (last_graft p gs) (λ g same free. free) (none_passes is_excluding p gs None none refl))
 
 -- ---- where a path is led by no link
 
@@ -83,7 +87,7 @@ pub unlinked_beneath : (ask : DriveAsk) (gs : List Graft) (counts : Bool) (p x :
     → link_at ask gs counts x ≡ None
 unlinked_beneath ask gs counts p x none low =
     unlinked ask gs counts x
-    (none_own (λ (g : Graft). below p g.path) x (last_graft x gs) (λ g same free. absurd (false≢true (sym free ∙ ap (below p) (same_path_is g.path x same) ∙ low)))
+    (none_own is_linked (λ (g : Graft). below p g.path) x (last_graft x gs) (λ g same free. absurd (false≢true (sym free ∙ ap (below p) (same_path_is g.path x same) ∙ low)))
     (none_passes (λ (g : Graft). below p g.path) x gs None none refl))
 
 -- nor is a path of a client of the other kind
@@ -113,5 +117,5 @@ link_among ask gs counts p link is = any_of (same_path p) (λ (g : Graft). g.pat
     by true some = refl
     by false none =
         absurd (cc (sym is ∙ unlinked ask gs counts p
-        (none_own (λ (g : Graft). same_path p g.path) p (last_graft p gs) (λ g same free. absurd (false≢true (sym free ∙ ap (same_path p) (same_path_is g.path p same) ∙ same_path_refl p)))
+        (none_own is_linked (λ (g : Graft). same_path p g.path) p (last_graft p gs) (λ g same free. absurd (false≢true (sym free ∙ ap (same_path p) (same_path_is g.path p same) ∙ same_path_refl p)))
         (none_passes (λ (g : Graft). same_path p g.path) p gs None none refl))))

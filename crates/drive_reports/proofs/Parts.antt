@@ -1,9 +1,9 @@
 -- What a graft shows beneath a path is a subtree of its own.
-use Rattle.std.proofs.Common.{◌≡◌, ℕ, Bool, true, false, cond, List, [], ◌∷◌, ◌++◌, length, drop, Option, Some, None, refl, sym, ap, ◌∙◌, option_map}
+use Rattle.std.proofs.Common.{◌≡◌, ◌<◌, arith, ℕ, Bool, true, false, cond, List, [], ◌∷◌, ◌++◌, length, drop, Option, Some, None, refl, sym, ap, ◌∙◌, option_map, subst}
 use Rattle.std.proofs.{lemmas.Bool.false≢true, lemmas.List.{append_assoc, append-nil}}
 use Rattle.std.specs.Prelude.{not, is_some, option_and_then, IfSome}
 use Rattle.svnpath.specs.{PathLaws.{rest_append, under_append, under_is}, Paths.{Component, is_at_or_under, PathValue}}
-use Rattle.repo_api.specs.{States.{RepoState, trees_in}, Trees.{is_directory, Tree}, declared.entry.Entry.Entry}
+use Rattle.repo_api.specs.{Kinds.kind_of, States.{RepoState, trees_in}, Trees.{is_directory, Tree}, declared.entry.Entry.Entry}
 use Rattle.drive_rules.specs.{Scopes.depth_below, declared.depth.Depth.Depth, declared.depth.Depth.TheVariants.{Empty, Files, Immediates, Infinity}}
 use Rattle.drive_rules.proofs.Entries.{under_more}
 use Rattle.drive_reports.specs.Places.{part_below, in_place, reported_subtree, IsPlacedAt, IsShownBy}
@@ -26,18 +26,24 @@ left_all Infinity rest e h = refl
 
 -- beneath what is shown the same is left, one depth further down
 left_below : (s : Subtree) (from : PathValue) (front : List Component) (c : Component) (rest : List Component) (e : Option Entry)
-    → option_map (reported_as s from (depth_below s.depth) None) (left_by s.depth (front ++ c ∷ rest) e)
+    → option_map (reported_as (part_below s (c ∷ [])) from (depth_below s.depth) None) (left_by s.depth (front ++ c ∷ rest) e)
     ≡ option_map (reported_as (part_below s (c ∷ [])) from (depth_below (depth_below s.depth)) None) (left_by (depth_below s.depth) rest e)
 left_below s from front c rest e = by s.depth front
   where
-    by : (d : Depth) (front : List Component) → option_map (reported_as s from (depth_below d) None) (left_by d (front ++ c ∷ rest) e)
-        ≡ option_map (λ (x : Entry). record { entry = x; from = from; revision = s.revision; depth = depth_below (depth_below d); token = None }) (left_by (depth_below d) rest e)
+    by : (d : Depth) (front : List Component) → option_map (reported_as (part_below s (c ∷ [])) from (depth_below d) None) (left_by d (front ++ c ∷ rest) e)
+        ≡ option_map (λ (x : Entry). record { entry = x; from = from; revision = s.revision; starts_empty = false; depth = depth_below (depth_below d); token = None }) (left_by (depth_below d) rest e)
     by Empty front = refl
     by Files [] = refl
     by Files (x ∷ xs) = refl
     by Immediates [] = refl
     by Immediates (x ∷ xs) = refl
     by Infinity front = refl
+
+-- what a subtree shows beneath its top does not start empty
+not_bare : (s : Subtree) (from : PathValue) (depth : Depth) (c : Component) (o : Option Entry) → s.starts_empty ≡ false
+    → option_map (reported_as s from depth None) o ≡ option_map (reported_as (part_below s (c ∷ [])) from depth None) o
+not_bare s from depth c o full =
+    ap (λ b. option_map (λ (x : Entry). record { entry = x; from = from; revision = s.revision; starts_empty = b; depth = depth; token = None }) o) full
 
 mapped_some : {A B : Type 0} (f : A → B) (o : Option A) → is_some (option_map f o) ≡ is_some o
 mapped_some f None = refl
@@ -61,11 +67,13 @@ in_part trees from s (c ∷ front) rest some = by s.starts_empty refl rest
         ap (λ r. in_subtree trees from s (c ∷ r)) (append-nil front)
         ∙ ap (λ b. shown b front) e
         ∙ ap (option_map (reported_as s (whole front) (depth_below s.depth) None)) (left_all s.depth front (trees s.revision (whole front)) there)
+        ∙ not_bare s (whole front) (depth_below s.depth) c (trees s.revision (whole front)) e
       where
         there : is_some (left_by s.depth front (trees s.revision (whole front))) ≡ true
         there = sym (mapped_some (reported_as s (whole front) (depth_below s.depth) None) (left_by s.depth front (trees s.revision (whole front)))) ∙ sym (ap (λ b. is_some (shown b front)) e) ∙ some
     by false e (x ∷ rest) =
         ap (λ b. shown b (front ++ x ∷ rest)) e
+        ∙ not_bare s (whole (front ++ x ∷ rest)) (depth_below s.depth) c (left_by s.depth (front ++ x ∷ rest) (trees s.revision (whole (front ++ x ∷ rest)))) e
         ∙ left_below s (whole (front ++ x ∷ rest)) front x rest (trees s.revision (whole (front ++ x ∷ rest)))
         ∙ ap (λ p. option_map (reported_as (part_below s (c ∷ front)) p (depth_below (depth_below s.depth)) None) (left_by (depth_below s.depth) rest (trees s.revision p))) (sym (append_assoc from (c ∷ front) (x ∷ rest)))
 
@@ -94,6 +102,22 @@ shown_part trees g s p rest is some =
         ∙ ap (λ o. is_some (option_and_then (λ (t : Subtree). in_subtree trees g.from t (drop (length g.path) p)) o)) is)
         ∙ some
 
+-- a graft of a top alone shows nothing beneath it
+pub bare_shows : (trees : ℕ → Tree) (g : Graft) (s : Subtree) (q : PathValue) → g.subtree ≡ Some s → s.starts_empty ≡ true → 0 < length (drop (length g.path) q)
+    → shown_by trees q (Some g) ≡ None
+bare_shows trees g s q is bare more = by (is_at_or_under q g.path)
+  where
+    beneath : (rest : List Component) → 0 < length rest → in_subtree trees g.from s rest ≡ None
+    beneath [] h = absurd (omega (h, arith))
+    beneath (c ∷ rest) h =
+        ap (λ b. cond b None (option_map (reported_as s (g.from ++ c ∷ rest) (depth_below s.depth) None) (left_by s.depth rest (trees s.revision (g.from ++ c ∷ rest))))) bare
+
+    by : (b : Bool) → cond b (in_graft trees g (drop (length g.path) q)) None ≡ None
+    by true =
+        ap (λ o. option_and_then (λ (t : Subtree). in_subtree trees g.from t (drop (length g.path) q)) o) is
+        ∙ beneath (drop (length g.path) q) more
+    by false = refl
+
 -- ---- places
 
 pub place_is : (trees : ℕ → Tree) (place : ReportedPlace) (from : PathValue) (t : Subtree) (rest : PathValue) → place.path ≡ from
@@ -107,15 +131,17 @@ none_of (Some x) h = absurd (false≢true h)
 
 -- nothing is had
 pub none_placed : (c : RepoState) (had : ReportedTree) (grafts : List Graft) (p : PathValue) → false ≡ is_some (had p) → IsPlacedAt c had grafts p None
-none_placed c had grafts p none = record { here = none_of (had p) none; stands = none; beneath = λ rest free. tt }
+none_placed c had grafts p none = record { here = none_of (had p) none; stands = none; kind = tt; beneath = λ rest free. tt }
 
 -- what is shown at a path stands at a place
 pub shown_placed : (c : RepoState) (g : Graft) (p : PathValue) (place : ReportedPlace) → is_some (shown_by (trees_in c.revisions) p (Some g)) ≡ true
+    → place.kind ≡ kind_of (option_map (λ (h : ReportedEntry). h.entry) (shown_by (trees_in c.revisions) p (Some g)))
     → ((rest : List Component) → shown_by (trees_in c.revisions) (p ++ rest) (Some g) ≡ in_place (trees_in c.revisions) place rest)
     → IsPlacedAt c (λ q. shown_by (trees_in c.revisions) q (Some g)) [] p (Some place)
-shown_placed c g p place some part = record {
+shown_placed c g p place some kind part = record {
   here = ap (λ q. shown_by (trees_in c.revisions) q (Some g)) (sym (append-nil p)) ∙ part [];
   stands = sym some;
+  kind = kind;
   beneath = λ rest free. part rest;
 }
 
@@ -125,6 +151,7 @@ pub placed_by : (c : RepoState) (top : PathValue) (first grafts : List Graft) (p
 placed_by c top first grafts p g found by placed = record {
   here = by.here ∙ placed.here;
   stands = placed.stands ∙ ap is_some (sym by.here);
+  kind = subst (λ o. IfSome found (λ place. place.kind ≡ kind_of (option_map (λ (h : ReportedEntry). h.entry) o))) (sym by.here) placed.kind;
   beneath = λ rest free. if_placed (λ place. in_place (trees_in c.revisions) place rest) found (by.beneath (p ++ rest) (under_append p rest) free) (placed.beneath rest refl);
 }
   where

@@ -1,5 +1,5 @@
 -- The depths that are reported and asked for.
-use Rattle.std.specs.{Prelude.{Bool, true, false, not, Option, Some, None, Result, Ok, Err}, Option.option_map_or}
+use Rattle.std.specs.{Prelude.{Bool, true, false, if◌then◌else◌, not, Option, Some, None, Result, Ok, Err}, Option.option_map_or}
 use Rattle.refusals.specs.declared.Refusal.{Refusal}
 use Rattle.refusals.specs.declared.Refusal.TheVariants as refusals
 use Rattle.drive_rules.specs.{declared.depth.Depth.Depth, declared.depth.Depth.TheVariants.{Empty, Files, Immediates, Infinity}}
@@ -8,12 +8,21 @@ use Rattle.drive_reports.specs.{declared.ask.DepthAsked.DepthAsked, declared.ask
 use Rattle.drive_reports.specs.declared.graft.Graft.{Graft}
 use Rattle.drive_reports.specs.declared.ask.DepthAsked.TheVariants as asks
 
--- how much of what stands there a client reports: everything, where it says nothing of it
-abbrev pub graft_depth : Option DepthWord → Result Depth Refusal
-graft_depth None = Ok Infinity
-graft_depth (Some (Known depth)) = Ok depth
-graft_depth (Some Unknown) = Err refusals.NotSupported
-graft_depth (Some Exclude) = Err refusals.NotSupported
+-- the word excludes what stands there
+abbrev pub is_exclude : Option DepthWord → Bool
+is_exclude None = false
+is_exclude (Some (Known depth)) = false
+is_exclude (Some Unknown) = false
+is_exclude (Some Exclude) = true
+
+-- how much of what stands there a client reports: everything, where it says nothing of it, and its
+-- top alone, where it excludes it and may
+abbrev pub graft_depth : Bool → Option DepthWord → Result Depth Refusal
+graft_depth may_exclude None = Ok Infinity
+graft_depth may_exclude (Some (Known depth)) = Ok depth
+graft_depth may_exclude (Some Unknown) = Err refusals.NotSupported
+graft_depth may_exclude (Some Exclude) =
+    if may_exclude then Ok Empty else Err refusals.NotSupported
 
 -- the depth of what is asked for without what is beneath directories
 abbrev pub shallow : Purpose → Depth
@@ -36,6 +45,11 @@ is_to_the_end Empty = false
 is_to_the_end Files = false
 is_to_the_end Immediates = false
 is_to_the_end Infinity = true
+
+-- everything is asked for, however deep it was reported
+abbrev pub asks_for_all : DepthAsked → Bool
+asks_for_all (asks.Given depth) = is_to_the_end depth
+asks_for_all asks.AsReported = false
 
 -- less than everything is reported of what the graft puts
 abbrev pub is_shallow : Graft → Bool

@@ -1,5 +1,5 @@
--- The links of a report: which paths they lead, and where.
-use Rattle.std.specs.Prelude.{Bool, true, false, not, ◌&&◌, List, [], Option, Some, None, fold, if◌then◌else◌}
+-- The links of a report, which paths they lead, and where; and the paths that it excludes.
+use Rattle.std.specs.Prelude.{Bool, true, false, not, ◌&&◌, List, [], Option, Some, None, is_some, fold, if◌then◌else◌}
 use Rattle.svnpath.specs.Paths.{is_at_or_under, PathValue, same_path}
 use Rattle.drive_reports.specs.{declared.ask.DriveAsk.DriveAsk, declared.ask.Purpose.Purpose, declared.ask.Purpose.TheVariants.{Update, Switch, Status}}
 use Rattle.drive_reports.specs.declared.graft.Graft.{Graft}
@@ -42,3 +42,11 @@ link_at ask grafts counts p =
 abbrev pub led_to : PathValue → Option Graft → PathValue
 led_to own None = own
 led_to own (Some link) = link.from
+
+-- the path of the graft is excluded
+abbrev pub is_excluding : Graft → Bool
+is_excluding g = g.is_excluded
+
+-- what was reported last of a path, or of one above it, is that this very path is excluded
+abbrev pub is_excluded_at : List Graft → PathValue → Bool
+is_excluded_at grafts p = is_some (own_graft is_excluding p (last_graft p grafts))

@@ -1,8 +1,8 @@
 -- What a client has at a path and beneath it.
-use Rattle.std.specs.Prelude.{◌≡◌, ℕ, Bool, false, true, ◌&&◌, List, [], ◌∷◌, ◌++◌, IfSome, Option, None, is_some, option_and_then}
+use Rattle.std.specs.Prelude.{◌≡◌, ℕ, Bool, false, true, ◌&&◌, List, [], ◌∷◌, ◌++◌, IfSome, Option, None, is_some, option_and_then, option_map}
 use Rattle.std.specs.List.{list_any}
 use Rattle.svnpath.specs.Paths.{Component, is_at_or_under, PathValue}
-use Rattle.repo_api.specs.{States.{RepoState, Revision, trees_in}, Trees.Tree}
+use Rattle.repo_api.specs.{Kinds.kind_of, States.{RepoState, Revision, trees_in}, Trees.Tree}
 use Rattle.drive_rules.specs.{Scopes.{below, depth_below, HoldsTogether}, declared.depth.Depth.Depth}
 use Rattle.drive_reports.specs.{Reported.{ReportedEntry, ReportedTree, in_subtree, reported, shown_by}, declared.graft.Graft.Graft}
 use Rattle.drive_reports.specs.{declared.graft.Subtree.Subtree, declared.reported.ReportedPlace.ReportedPlace}
@@ -43,11 +43,12 @@ pub record IsShownBy (c : RepoState) (top : PathValue) (first grafts : List Graf
   pub beneath : (q : PathValue) → is_at_or_under q p ≡ true → is_grafted_over grafts p q ≡ false
       → reported (trees_in c.revisions) top first q ≡ shown_by (trees_in c.revisions) q found
 
--- What is had at a path is what stands at this place, or nothing where there is none. So it is
--- beneath, where none of the grafts stands over it.
+-- What is had at a path is what stands at this place, of its kind, or nothing where there is none. So
+-- it is beneath, where none of the grafts stands over it.
 pub record IsPlacedAt (c : RepoState) (had : ReportedTree) (grafts : List Graft) (p : PathValue)
     (found : Option ReportedPlace) : Type 0 where
   pub here : had p ≡ option_and_then (λ place. in_place (trees_in c.revisions) place []) found
   pub stands : is_some found ≡ is_some (had p)
+  pub kind : IfSome found (λ place. place.kind ≡ kind_of (option_map (λ h. h.entry) (had p)))
   pub beneath : (rest : List Component) → is_grafted_over grafts p (p ++ rest) ≡ false
       → IfSome found (λ place. had (p ++ rest) ≡ in_place (trees_in c.revisions) place rest)

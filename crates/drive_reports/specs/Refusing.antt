@@ -7,8 +7,8 @@ use Rattle.refusals.specs.{Refusing.path_refusal, declared.Refusal.Refusal}
 use Rattle.refusals.specs.declared.Refusal.TheVariants as refusals
 use Rattle.repo_api.specs.{States.{RepoState, trees_in, youngest}, Trees.is_directory_there}
 use Rattle.drive_rules.specs.declared.depth.Depth.{Depth}
-use Rattle.wire_reports.specs.{declared.asking.DriveRequest.DriveRequest, declared.report.ReportedPath.ReportedPath}
-use Rattle.drive_reports.specs.{Depths.{graft_depth, depth_asked}, Reported.{has_place, has_directory, own_source}, Targets.{WholeReport, reported_tree}}
+use Rattle.wire_reports.specs.{declared.asking.DriveRequest.DriveRequest, declared.depth_word.DepthWord.DepthWord, declared.report.ReportedPath.ReportedPath}
+use Rattle.drive_reports.specs.{Depths.{graft_depth, depth_asked, is_exclude}, Reported.{has_place, has_directory, own_source}, Targets.{WholeReport, reported_tree}}
 use Rattle.drive_reports.specs.{declared.ask.DriveAsk.DriveAsk, declared.ask.Purpose.Purpose, declared.ask.Purpose.TheVariants.Switch}
 use Rattle.drive_reports.specs.{declared.graft.Graft.Graft, declared.report.OpenReport.OpenReport, declared.report.Report.Report}
 use Rattle.drive_reports.specs.{declared.report.Report.TheVariants.{Refused, Open}, declared.report.ReportRoot.ReportRoot}
@@ -95,9 +95,18 @@ is_in_order report text url =
     is_some report.root
     || (not (is_some url) && names_target report.ask (report_path report.ask text))
 
--- nothing need stand where a target of some name is reported first
-abbrev pub may_be_absent : OpenState → Bool
-may_be_absent report = not (is_some report.root) && not (same_path report.ask.target [])
+-- a client of today links the session's own path, which has no directory that could hold a link
+abbrev pub is_root_link : DriveAsk → PathValue → Option (List ℕ) → Bool
+is_root_link ask p url = ask.is_of_today && is_some url && same_path p []
+
+-- a client of today may exclude each path that is set, but for the target
+abbrev pub may_exclude : DriveAsk → PathValue → Option (List ℕ) → Bool
+may_exclude ask p url = ask.is_of_today && not (is_some url) && not (same_path p ask.target)
+
+-- nothing need stand at what is excluded, and where a target of some name is reported first
+abbrev pub may_be_absent : OpenState → Option DepthWord → Bool
+may_be_absent report word =
+    is_exclude word || (not (is_some report.root) && not (same_path report.ask.target []))
 
 -- the path that is reported first stays
 abbrev pub first_root : Option ReportRoot → ℕ → Depth → ReportRoot
@@ -116,6 +125,7 @@ graft_of p from n depth reported url = record {
   path = p;
   from = from;
   is_link = is_some url;
+  is_excluded = is_exclude reported.depth;
   subtree = Some (record {
     revision = n;
     starts_empty = reported.starts_empty;
@@ -127,8 +137,8 @@ graft_of p from n depth reported url = record {
 -- ---- the commands
 
 -- The root and the graft of a path that is set, or linked to a URL. In this order are judged:
--- whether it may come first, its path, its URL, its revision, its depth, its place, and whether
--- something stands there.
+-- whether it may come first, its path, its URL, its revision, whether it may be linked, its depth,
+-- its place, and whether something stands there.
 abbrev pub set_path_graft : RepoState → List ℕ → OpenState → ReportedPath → Option (List ℕ)
     → Result (ReportRoot × Graft) Refusal
 set_path_graft c name report reported url = do
@@ -136,10 +146,12 @@ set_path_graft c name report reported url = do
   p ← report_path report.ask reported.path
   from ← url_or name (own_source report.ask.anchor report.ask.target report.grafts p) url
   n ← revision_read c (Some reported.revision)
-  depth ← graft_depth reported.depth
+  _ ← ok_if (not (is_root_link report.ask p url)) refusals.MalformedData
+  depth ← graft_depth (may_exclude report.ask p url) reported.depth
   _ ← ok_if (has_place report.ask.target (reported_tree c report.ask report.grafts) p)
       refusals.NotFound
-  _ ← ok_if (is_some (trees_in c.revisions n from) || may_be_absent report) refusals.NotFound
+  _ ← ok_if (is_some (trees_in c.revisions n from) || may_be_absent report reported.depth)
+      refusals.NotFound
   Ok (first_root report.root n depth, graft_of p from n depth reported url)
 
 -- what a path that is set, or linked to a URL, makes of a report
@@ -165,6 +177,7 @@ empty_graft report p = record {
   path = p;
   from = own_source report.ask.anchor report.ask.target report.grafts p;
   is_link = false;
+  is_excluded = false;
   subtree = None;
 }
 
@@ -205,14 +218,15 @@ abbrev pub has_goal : RepoState → DriveAsk → Purpose → Bool
 has_goal c ask Switch = is_some (trees_in c.revisions ask.revision ask.goal)
 has_goal c ask _ = true
 
--- the anchor is a directory: with a target, in the repository; without one, in what the client has
--- and in what it is to have
+-- The anchor is a directory: with a target, in the repository; without one, in what the client has
+-- and in what it is to have. With a target a client of today need have none: the target goes with
+-- its directory.
 abbrev pub has_anchor : RepoState → DriveAsk → List Graft → Bool
 has_anchor c ask grafts =
     if same_path ask.target []
     then is_directory_there (trees_in c.revisions ask.revision ask.goal)
     && has_directory (reported_tree c ask grafts [])
-    else is_directory_there (trees_in c.revisions ask.revision ask.anchor)
+    else ask.is_of_today || is_directory_there (trees_in c.revisions ask.revision ask.anchor)
 
 -- the path that was reported first, where there is to be a drive, or why there is none
 abbrev pub finish_root : RepoState → OpenState → Result ReportRoot Refusal

@@ -6,12 +6,13 @@ use Rattle.repo_api.specs.{Trees.{is_directory, is_file_there, Tree}, declared.e
 use Rattle.drive_rules.specs.{Scopes.depth_below, declared.depth.Depth.Depth, declared.depth.Depth.TheVariants.{Empty, Files, Immediates, Infinity}}
 use Rattle.drive_reports.specs.{declared.graft.Graft.Graft, declared.graft.Subtree.Subtree}
 
--- what a client has at a path: the entry, its path of the repository and its revision, how deep it
--- was reported, and the token of a lock
+-- what a client has at a path: the entry, its path of the repository and its revision, whether it
+-- was reported to start empty and how deep, and the token of a lock
 pub record ReportedEntry : Type 0 where
   pub entry : Entry
   pub from : PathValue
   pub revision : ℕ
+  pub starts_empty : Bool
   pub depth : Depth
   pub token : Option (List ℕ)
 
@@ -50,6 +51,7 @@ reported_as s from depth token e = record {
   entry = e;
   from = from;
   revision = s.revision;
+  starts_empty = s.starts_empty;
   depth = depth;
   token = token;
 }

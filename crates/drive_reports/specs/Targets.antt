@@ -1,12 +1,12 @@
 -- The two trees of a drive: what the client has, and what it is to have.
 use Rattle.std.specs.Prelude.{ℕ, Bool, false, not, ◌&&◌, ◌||◌, List, Option, Some, None, option_map, option_and_then, is_some, if◌then◌else◌}
-use Rattle.std.specs.FinMap.{get}
+use Rattle.std.specs.{FinMap.get, Option.option_map_or}
 use Rattle.svnpath.specs.Paths.{is_at_or_under, PathValue}
-use Rattle.repo_api.specs.{States.{LockMap, RepoState}, Trees.Tree, declared.entry.Entry.Entry, declared.lock.Lock.Lock}
+use Rattle.repo_api.specs.{States.{LockMap, RepoState}, Trees.{is_directory, Tree}, declared.entry.Entry.Entry, declared.lock.Lock.Lock}
 use Rattle.wire_forms.specs.Forms.{is_name}
-use Rattle.drive_rules.specs.{Scopes.{depth_added, depth_below, DepthLimit, hides_nothing, scope_of, within}, Scopes.DepthLimit.{Given, Reported}}
+use Rattle.drive_rules.specs.{Scopes.{depth_added, depth_below, DepthLimit, scope_of, within}, Scopes.DepthLimit.{Given, Reported}}
 use Rattle.drive_rules.specs.{declared.depth.Depth.Depth, declared.depth.Depth.TheVariants.Infinity}
-use Rattle.drive_reports.specs.{Aims.aim_at, Reported.{ReportedTree, reported_entries, has_directory}, declared.ask.DepthAsked.DepthAsked, declared.ask.DriveAsk.DriveAsk}
+use Rattle.drive_reports.specs.{Aims.aim_at, Depths.{asks_for_all, is_to_the_end}, Links.is_excluded_at, Reported.{ReportedEntry, ReportedTree, reported_entries, has_directory}, declared.ask.DepthAsked.DepthAsked, declared.ask.DriveAsk.DriveAsk}
 pub use Rattle.drive_reports.specs.Wholes.{WholeReport, reported_tree, client_tree, goal_path, target_tree}
 use Rattle.drive_reports.specs.declared.ask.DepthAsked.TheVariants as asks
 
@@ -45,6 +45,14 @@ is_stale c report q =
     keeps_report c report q
     && is_stale_token c.locks (aim_at c report q).from (target_entries c report q)
     (option_and_then (λ h. h.token) (client_tree c report q))
+
+-- ---- what is hidden
+
+-- the client excludes a path at which something is to stand, and what it reports of it counts
+abbrev pub is_hidden : RepoState → WholeReport → PathValue → Bool
+is_hidden c report q =
+    let a = aim_at c report q in
+    a.counts && (is_some a.entry && is_excluded_at report.grafts q)
 
 -- ---- the paths of the drive
 
@@ -85,7 +93,7 @@ counted_entries c report q = option_map (λ h. h.entry) (aim_at c report q).had
 -- the paths that the drive is of
 abbrev pub drive_scope : RepoState → WholeReport → PathValue → Bool
 drive_scope c report =
-    scope_of hides_nothing (depth_inherited report.ask) (drive_limit c report)
+    scope_of (is_hidden c report) (depth_inherited report.ask) (drive_limit c report)
     (counted_entries c report) (target_entries c report) report.ask.target
 
 -- what the client has of these paths: all that it has, whether it counts or not
@@ -103,3 +111,24 @@ is_apart c report q = is_some (old_tree c report q) && not (aim_at c report q).s
 -- the paths of the drive whose token is stale
 abbrev pub stale_in : RepoState → WholeReport → PathValue → Bool
 stale_in c report q = drive_scope c report q && is_stale c report q
+
+-- ---- what is due
+
+-- a client writes a directory down anew when it is opened: one that was reported to start empty is
+-- whole from then on, and one that was reported less deep is to the end where all is asked for
+abbrev pub is_written_anew : DriveAsk → ReportedEntry → Bool
+is_written_anew ask h =
+    is_directory h.entry
+    && (h.starts_empty || (asks_for_all ask.depth && not (is_to_the_end h.depth)))
+
+-- so a client of today is to open it, where it stays
+abbrev pub is_to_be_opened : RepoState → WholeReport → PathValue → Bool
+is_to_be_opened c report q =
+    report.ask.is_of_today
+    && ((aim_at c report q).stays
+    && option_map_or (is_written_anew report.ask) (client_tree c report q) false)
+
+-- the paths of the drive that are named though they may not differ
+abbrev pub due_in : RepoState → WholeReport → PathValue → Bool
+due_in c report q =
+    drive_scope c report q && (is_stale c report q || is_to_be_opened c report q)

@@ -1,14 +1,16 @@
 //! What the commands of a report make of it.
 ghost use Rattle.std.specs.{Prelude.{◌≡◌, option_copied, IfOk, IsOkAnd}, Result.result_ok};
 ghost use Rattle.repo_api.specs.Soundness.{AreTrees};
-ghost use Rattle.drive_reports.specs.{Judging.{JudgesReport, JudgesAnd}, Named.IsNamed, Refusing.{is_in_order, may_be_absent, first_root, graft_of}};
+ghost use Rattle.drive_reports.specs.{Judging.{JudgesReport, JudgesAnd}, Named.IsNamed, Refusing.{is_in_order, is_root_link, may_be_absent, may_exclude, first_root, graft_of}};
 ghost use Rattle.drive_reports.specs.Refusing.{set_path_graft, set_path_place, set_path_report, delete_path_graft, delete_path_report, report_with_graft};
 ghost use Rattle.drive_reports.specs.Refusing.{has_goal, has_anchor, finish_root};
 
 use crate::ask::{DriveAsk, Purpose};
 use crate::graft::{Graft, Subtree};
 use crate::grafts::Grafts;
-use crate::judging::{graft_depth, is_directory_there, is_there, judge, revision_read, url_or};
+use crate::judging::{
+    graft_depth, is_directory_there, is_exclude, is_there, judge, revision_read, url_or,
+};
 use crate::report::{OpenReport, Report, ReportRoot};
 use crate::reported::{has_directory, has_place};
 use crate::sources::{own_source, report_path, under_anchor};
@@ -19,7 +21,7 @@ use repo_api::Repository;
 use std::alloc::{AllocError, Global};
 use std::mem::drop;
 use svnpath::Path;
-use wire_reports::ReportedPath;
+use wire_reports::{DepthWord, ReportedPath};
 
 /// A path that is set, or linked to a URL.
 #[derive(Clone, Copy)]
@@ -50,11 +52,25 @@ fn is_in_order(
     }
 }
 
-/// Says whether nothing need exist where the target is reported first.
-fn may_be_absent(report: &OpenReport<Grafts>) -> bool
-    ensures { result ≡ may_be_absent report.now }
+/// Says whether a client of today links the session's own path.
+fn is_root_link(ask: &DriveAsk, path: &Path, url: Option<&ByteString>) -> bool
+    ensures { result ≡ is_root_link ask.now path.now (option_copied url.entry) }
 {
-    report.root.is_none() && !report.ask.target.as_path().is_root()
+    ask.is_of_today && url.is_some() && path.is_root()
+}
+
+/// Says whether a client of today may exclude a path that is set: each but for the target.
+fn may_exclude(ask: &DriveAsk, path: &Path, url: Option<&ByteString>) -> bool
+    ensures { result ≡ may_exclude ask.now path.now (option_copied url.entry) }
+{
+    ask.is_of_today && url.is_none() && path != ask.target.as_path()
+}
+
+/// Says whether nothing need exist at what is reported: it is excluded, or the target, of some name, is reported first.
+fn may_be_absent(report: &OpenReport<Grafts>, word: Option<DepthWord>) -> bool
+    ensures { result ≡ may_be_absent report.now word }
+{
+    is_exclude(word) || (report.root.is_none() && !report.ask.target.as_path().is_root())
 }
 
 /// Keeps the path that was reported first.
@@ -83,6 +99,7 @@ fn graft_of(
         path,
         from,
         is_link: link.url.is_some(),
+        is_excluded: is_exclude(link.reported.depth),
         subtree: Some(Subtree {
             revision,
             starts_empty: link.reported.starts_empty,
@@ -112,11 +129,12 @@ fn set_path_graft<R: Repository>(
     let own = own_source(alloc, ask, grafts, &path)?;
     let from = url_or(alloc, name, own, link.url)?;
     let revision = revision_read(view, Some(link.reported.revision))?;
-    let depth = graft_depth(link.reported.depth)?;
+    judge(!is_root_link(ask, &path, link.url), Refusal::MalformedData)?;
+    let depth = graft_depth(may_exclude(ask, &path, link.url), link.reported.depth)?;
     let is_placed = has_place(alloc, view, top, grafts, &path)?;
     judge(is_placed, Refusal::NotFound)?;
     judge(
-        is_there(view, revision, &from) || may_be_absent(report),
+        is_there(view, revision, &from) || may_be_absent(report, link.reported.depth),
         Refusal::NotFound,
     )?;
     let root = first_root(report.root, revision, depth);
@@ -139,6 +157,7 @@ fn delete_path_graft(
         path,
         from,
         is_link: false,
+        is_excluded: false,
         subtree: None,
     })
 }
@@ -278,8 +297,8 @@ fn has_goal<R: Repository>(view: &R, ask: &DriveAsk) -> bool
     }
 }
 
-/// Says whether the anchor is a directory: with a target, in the repository; without one, in what the client has and in
-/// what it is to have.
+/// Says whether the anchor is a directory: with a target, in the repository, where that is asked for; without one, in
+/// what the client has and in what it is to have.
 fn has_anchor<R: Repository>(
     alloc: Global,
     view: &R,
@@ -292,7 +311,7 @@ fn has_anchor<R: Repository>(
     let ask = &report.ask;
     let top = ask.target.as_path();
     if !top.is_root() {
-        return Ok(is_directory_there(view, ask.revision, &ask.anchor));
+        return Ok(ask.is_of_today || is_directory_there(view, ask.revision, &ask.anchor));
     }
     if !is_directory_there(view, ask.revision, &ask.goal) {
         return Ok(false);

@@ -26,6 +26,8 @@ pub struct Graft {
     pub from: Path,
     /// Whether the path is linked to a URL.
     pub is_link: bool,
+    /// Whether the client excludes the path.
+    pub is_excluded: bool,
     pub subtree: Option<Subtree>,
 }
 

@@ -1,7 +1,7 @@
 //! The grafts of a report.
 ghost use Rattle.std.specs.{Prelude.{◌≡◌, ◌≤◌, ◌||◌, ◌∷◌, ◌++◌, [], length, OnOk, OnErr, IfOk}, List.list_any};
 ghost use Rattle.drive_rules.specs.Scopes.{below};
-ghost use Rattle.drive_reports.specs.{Depths.is_shallow, Finding.{IsLastAbove, IsLastAt, later}, Links.is_linked, Named.{AreNamed, IsNamed}};
+ghost use Rattle.drive_reports.specs.{Depths.is_shallow, Finding.{IsLastAbove, IsLastAt, later}, Links.{is_excluding, is_linked}, Named.{AreNamed, IsNamed}};
 
 use crate::graft::{Graft, is_shallow};
 use crate::index::GraftIndex;
@@ -17,6 +17,7 @@ pub struct Grafts {
     index: GraftIndex,
     has_shallow: bool,
     has_link: bool,
+    has_excluded: bool,
     /// About how many bytes of memory they take.
     taken: usize,
 }
@@ -28,6 +29,7 @@ impl Drop for Grafts {
             index: _,
             has_shallow: _,
             has_link: _,
+            has_excluded: _,
             taken: _,
         } = self;
     }
@@ -35,7 +37,7 @@ impl Drop for Grafts {
 
 impl Model for Grafts {
     ghost use Rattle.std.specs.{Prelude.{◌≡◌, List}, List.list_any};
-    ghost use Rattle.drive_reports.specs.{Depths.is_shallow, Finding.AreFound, Links.is_linked, Named.AreNamed, declared.graft.Graft.Graft};
+    ghost use Rattle.drive_reports.specs.{Depths.is_shallow, Finding.AreFound, Links.{is_excluding, is_linked}, Named.AreNamed, declared.graft.Graft.Graft};
 
     ghost Value = { List Graft };
 
@@ -44,7 +46,8 @@ impl Model for Grafts {
     ghost invariant = { λ g. AreNamed g.grafts.items
         × AreFound g.grafts.items g.index.newest.entries g.index.older.items
         × (g.has_shallow ≡ list_any is_shallow g.grafts.items)
-        × (g.has_link ≡ list_any is_linked g.grafts.items) };
+        × (g.has_link ≡ list_any is_linked g.grafts.items)
+        × (g.has_excluded ≡ list_any is_excluding g.grafts.items) };
 }
 
 /// Says whether less than everything is reported of what one graft more puts, or it was before.
@@ -59,6 +62,13 @@ fn has_link_too(before: bool, graft: &Graft) -> bool
     ensures { result ≡ (before || is_linked graft.now) }
 {
     before || graft.is_link
+}
+
+/// Says whether one graft more excludes its path, or one did before.
+fn has_excluded_too(before: bool, graft: &Graft) -> bool
+    ensures { result ≡ (before || is_excluding graft.now) }
+{
+    before || graft.is_excluded
 }
 
 /// Gives the later of two places, if there are any.
@@ -82,6 +92,7 @@ impl Grafts {
             index: GraftIndex::new(alloc),
             has_shallow: false,
             has_link: false,
+            has_excluded: false,
             taken: 0,
         }
     }
@@ -94,6 +105,7 @@ impl Grafts {
     {
         let has_shallow = has_shallow_too(self.has_shallow, &graft);
         let has_link = has_link_too(self.has_link, &graft);
+        let has_excluded = has_excluded_too(self.has_excluded, &graft);
         let taken = taken_with(self.taken, &graft)?;
         let path = graft.path.clone()?;
         self.grafts.push(graft)?;
@@ -101,6 +113,7 @@ impl Grafts {
             Ok(()) => {
                 self.has_shallow = has_shallow;
                 self.has_link = has_link;
+                self.has_excluded = has_excluded;
                 self.taken = taken;
                 Ok(())
             }
@@ -130,6 +143,13 @@ impl Grafts {
         ensures { result ≡ list_any is_linked self.now }
     {
         self.has_link
+    }
+
+    /// Says whether some graft excludes its path.
+    pub fn has_excluded(&self) -> bool
+        ensures { result ≡ list_any is_excluding self.now }
+    {
+        self.has_excluded
     }
 
     /// Says whether a graft stands beneath a path.

@@ -2,7 +2,7 @@
 ghost use Rattle.std.specs.Prelude.{◌≡◌, is_some, option_copied};
 ghost use Rattle.repo_api.specs.{States.trees_in, Trees.is_directory_there};
 ghost use Rattle.svnpath.specs.Texts.{joined};
-ghost use Rattle.drive_reports.specs.{Depths.{graft_depth, depth_asked, shallow}, Judging.{JudgesReport, JudgesAnd}};
+ghost use Rattle.drive_reports.specs.{Depths.{graft_depth, depth_asked, is_exclude, shallow}, Judging.{JudgesReport, JudgesAnd}};
 ghost use Rattle.drive_reports.specs.{Refusing.{ok_if, or_refusal, url_or, revision_read}, Named.IsNamedBeneath};
 
 use crate::ask::{DepthAsked, Purpose};
@@ -68,13 +68,25 @@ pub(crate) fn revision_read<R: Repository>(view: &R, revision: Option<u64>) -> R
     }
 }
 
-/// Says how much of what exists somewhere is reported: everything, where no depth is named.
-pub(crate) fn graft_depth(word: Option<DepthWord>) -> Result<Depth, NotDone>
-    ensures { JudgesReport result (graft_depth word) }
+/// Says whether a word excludes what exists somewhere.
+pub(crate) fn is_exclude(word: Option<DepthWord>) -> bool
+    ensures { result ≡ is_exclude word }
+{
+    match word {
+        Some(DepthWord::Exclude) => true,
+        Some(DepthWord::Known(_) | DepthWord::Unknown) | None => false,
+    }
+}
+
+/// Says how much of what exists somewhere is reported: everything, where no depth is named, and its top alone, where it
+/// is excluded and may be.
+pub(crate) fn graft_depth(may_exclude: bool, word: Option<DepthWord>) -> Result<Depth, NotDone>
+    ensures { JudgesReport result (graft_depth may_exclude word) }
 {
     match word {
         None => Ok(Depth::Infinity),
         Some(DepthWord::Known(depth)) => Ok(depth),
+        Some(DepthWord::Exclude) if may_exclude => Ok(Depth::Empty),
         Some(DepthWord::Unknown | DepthWord::Exclude) => {
             Err(NotDone::Refused(Refusal::NotSupported))
         }

@@ -25,7 +25,7 @@ pub use laws::{
     drive_trees_hold_together, others_are_led_to_the_goal, reported_trees_hold_together,
     revisions_hold_together, whole_reports_are_revisions,
 };
-pub use links::link_at;
+pub use links::{is_excluded_at, link_at};
 pub use named_path::NamedPath;
 pub use report::{OpenReport, Report, ReportRoot};
-pub use reported::{ReportedPlace, reported_at};
+pub use reported::{ReportedPlace, depth_below, reported_at};

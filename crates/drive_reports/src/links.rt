@@ -1,6 +1,6 @@
-//! The links of a report.
-ghost use Rattle.std.specs.Prelude.{◌≡◌, Some, option_copied, IfOk};
-ghost use Rattle.drive_reports.specs.Links.{follows_links, is_linked, last_graft, link_at, may_lead, own_graft};
+//! The links of a report, and the paths that it excludes.
+ghost use Rattle.std.specs.Prelude.{◌≡◌, Some, is_some, option_copied, IfOk};
+ghost use Rattle.drive_reports.specs.Links.{follows_links, is_excluded_at, is_excluding, is_linked, last_graft, link_at, may_lead, own_graft};
 
 use crate::ask::{DriveAsk, Purpose};
 use crate::graft::Graft;
@@ -70,4 +70,25 @@ pub fn link_at<'a>(
         return Ok(None);
     }
     own_link(alloc, &report.grafts, path)
+}
+
+/// Says whether a graft excludes this very path.
+fn excludes(graft: &Graft, path: &Path) -> bool
+    ensures { result ≡ is_some (own_graft is_excluding path.now (Some graft.now)) }
+{
+    &graft.path == path && graft.is_excluded
+}
+
+/// Says whether the last graft at or above a path excludes this very path.
+pub fn is_excluded_at(alloc: Global, grafts: &Grafts, path: &Path) -> Result<bool, AllocError>
+    ensures { IfOk result (λ answer. answer ≡ is_excluded_at grafts.now path.now) }
+{
+    if !grafts.has_excluded() {
+        return Ok(false);
+    }
+    let all = grafts.as_slice();
+    match grafts.last_above(alloc, path, all.len())? {
+        None => Ok(false),
+        Some(place) => Ok(excludes(&all[place], path)),
+    }
 }

@@ -45,15 +45,16 @@ pub(crate) fn shown_kind<R: Repository>(
     if !path.is_at_or_under(&graft.path) {
         return Ok(NodeKind::Absent);
     }
-    let from = path.rebased(alloc, &graft.path, &graft.from)?;
-    let kind = view.kind(subtree.revision, &from);
     let names = path.len() - graft.path.len();
     if names == 0 {
-        return Ok(kind);
+        let from = path.rebased(alloc, &graft.path, &graft.from)?;
+        return Ok(view.kind(subtree.revision, &from));
     }
     if subtree.starts_empty {
         return Ok(NodeKind::Absent);
     }
+    let from = path.rebased(alloc, &graft.path, &graft.from)?;
+    let kind = view.kind(subtree.revision, &from);
     Ok(left_kind(subtree.depth, names, kind))
 }
 
@@ -137,19 +138,20 @@ fn graft_at<'a, R: Repository>(
     graft_among(alloc, view, top, FirstGrafts { grafts, count }, path)
 }
 
-/// What a client has at a path: what stands at a path of a revision, its top alone where it starts
-/// empty, so deep, with the token of the lock of its top.
+/// What a client has at a path: what stands at a path of a revision, of this kind, its top alone where
+/// it starts empty, so deep, with the token of the lock of its top.
 #[derive(Drop)]
 pub struct ReportedPlace {
     pub revision: u64,
     pub path: Path,
+    pub kind: NodeKind,
     pub starts_empty: bool,
     pub depth: Depth,
     pub token: Option<ByteString>,
 }
 
 /// Gives the depth of what is in a directory of a depth.
-fn depth_below(depth: Depth) -> Depth
+pub fn depth_below(depth: Depth) -> Depth
     ensures { result ≡ depth_below depth }
 {
     match depth {
@@ -158,9 +160,15 @@ fn depth_below(depth: Depth) -> Depth
     }
 }
 
-/// Gives what of a subtree is so many names beneath its top, at this path of its revision.
-fn place_in(subtree: &Subtree, names: usize, path: Path) -> Result<ReportedPlace, AllocError>
+/// Gives what of a subtree is so many names beneath its top, at this path of its revision and of this kind.
+fn place_in(
+    subtree: &Subtree,
+    names: usize,
+    path: Path,
+    kind: NodeKind,
+) -> Result<ReportedPlace, AllocError>
     ensures path { IfOk result (λ place. place.path ≡ path) }
+    ensures kind { IfOk result (λ place. place.kind ≡ kind) }
     ensures part { IfOk result (λ place. (rest : List Component) → names ≡ length rest
         → reported_subtree place.revision place.starts_empty place.depth place.token
         ≡ part_below subtree.now rest) }
@@ -170,6 +178,7 @@ fn place_in(subtree: &Subtree, names: usize, path: Path) -> Result<ReportedPlace
         Ok(ReportedPlace {
             revision: subtree.revision,
             path,
+            kind,
             starts_empty: subtree.starts_empty,
             depth: subtree.depth,
             token,
@@ -178,6 +187,7 @@ fn place_in(subtree: &Subtree, names: usize, path: Path) -> Result<ReportedPlace
         Ok(ReportedPlace {
             revision: subtree.revision,
             path,
+            kind,
             starts_empty: false,
             depth: depth_below(subtree.depth),
             token: None,
@@ -198,12 +208,13 @@ fn shown_at<R: Repository>(
     let Some(subtree) = &graft.subtree else {
         return Ok(None);
     };
-    if !shown_kind(alloc, view, graft, path)?.is_present() {
+    let kind = shown_kind(alloc, view, graft, path)?;
+    if !kind.is_present() {
         return Ok(None);
     }
     let names = path.len() - graft.path.len();
     let from = path.rebased(alloc, &graft.path, &graft.from)?;
-    let place = place_in(subtree, names, from)?;
+    let place = place_in(subtree, names, from, kind)?;
     Ok(Some(place))
 }
 

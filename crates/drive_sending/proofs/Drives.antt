@@ -8,12 +8,11 @@ use Rattle.svndiff0.specs.Window.{limit}
 use Rattle.repo_api.specs.{States.RepoState, Trees.Tree, declared.entry.Entry.Entry}
 use Rattle.wire_edits.specs.declared.editing.EditorCommand.TheVariants.{CloseDirectory}
 use Rattle.drive_rules.specs.{Steps.{has_step, is_adding, is_entry_property, is_opening, Step}, Steps.EntryKind.DirectoryKind, Steps.Step.{AddAt, OpenAt}}
-use Rattle.drive_rules.specs.Scopes.{hides_nothing}
 use Rattle.drive_rules.proofs.{Joined.{and_front, named_append}, Trees.{in_scope, is_scope}}
 use Rattle.reporter.specs.{Own.{Change, property_steps, text_steps}, Visits.{entry_kind, kind_if, plan_steps, visit_steps}, Visits.Visit}
 use Rattle.reporter.specs.Visits.Visit.{Open, Add, Delete, Close}
 use Rattle.drive_reports.specs.Reported.{reported_entries}
-use Rattle.drive_reports.specs.Targets.{WholeReport, client_tree, counted_entries, depth_inherited, drive_limit, target_entries, drive_scope, is_apart, is_stale, old_tree, new_tree, stale_in}
+use Rattle.drive_reports.specs.Targets.{WholeReport, client_tree, counted_entries, depth_inherited, drive_limit, target_entries, drive_scope, due_in, is_apart, is_hidden, old_tree, new_tree, stale_in}
 use Rattle.drive_wire.specs.{EntryProperties.{entry_property, told_by, told}, Saying.Says}
 use Rattle.drive_wire.specs.Sent.{IsDrive, LeadsToTarget, TellsEach, base_of, or_no_text, enters, from_root, seen_by}
 use Rattle.drive_wire.proofs.{Joining.says_append, Writing.reads_close}
@@ -273,7 +272,7 @@ module _ (c : RepoState) (report : WholeReport) where
 
       right : LeadsToTarget c report (Steps (from_top report.ask vs))
       right =
-          in_scope (seen_by report.ask.purpose) (drive_scope c report) (stale_in c report) (is_apart c report) report.ask.target
+          in_scope (seen_by report.ask.purpose) (drive_scope c report) (due_in c report) (is_apart c report) report.ask.target
           (reported_entries (client_tree c report)) (target_entries c report) (Steps (from_top report.ask vs))
-          (is_scope hides_nothing (depth_inherited report.ask) (drive_limit c report) (counted_entries c report) (target_entries c report) report.ask.target)
-          (λ w s. and_front (drive_scope c report w) (is_stale c report w) s) plan.right
+          (is_scope (is_hidden c report) (depth_inherited report.ask) (drive_limit c report) (counted_entries c report) (target_entries c report) report.ask.target)
+          (λ w s. and_front (drive_scope c report w) _ s) plan.right

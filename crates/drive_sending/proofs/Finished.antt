@@ -1,16 +1,16 @@
 -- Where there is no target, a directory is to stand at the root of a drive.
-use Rattle.std.proofs.Common.{◌≡◌, ℕ, inr, List, Bool, true, false, ◌&&◌, [], length, drop, Option, Some, None, refl, sym, ap, ◌∙◌, subst}
+use Rattle.std.proofs.Common.{◌≡◌, ℕ, inr, List, Bool, true, false, ◌&&◌, ◌||◌, [], length, drop, Option, Some, None, refl, sym, ap, ◌∙◌, subst}
 use Rattle.std.proofs.{Common.if◌then◌else◌, lemmas.Bool.false≢true}
 use Rattle.repo_api.specs.{Soundness.AreTrees, States.{RepoState, trees_in}, Trees.is_directory_there, declared.entry.Entry.Entry}
 use Rattle.std.specs.Prelude.{Result, Ok, Err, ok_or, is_some}
 use Rattle.svnpath.specs.{PathLaws.same_path_is, Paths.{is_at_or_under, PathValue, same_path}}
 use Rattle.refusals.specs.declared.Refusal.{Refusal}
 use Rattle.refusals.specs.declared.Refusal.TheVariants as refusals
-use Rattle.drive_rules.specs.{Scopes.{hides_nothing, stays_in_scope, top_limit}, Steps.EntryKind.DirectoryKind}
+use Rattle.drive_rules.specs.{Scopes.{stays_in_scope, top_limit}, Steps.EntryKind.DirectoryKind}
 use Rattle.drive_rules.proofs.Joined.{and_front}
 use Rattle.reporter.specs.{Visits.{entry_kind, kind_if}, Visits.Visit}
 use Rattle.drive_reports.specs.{Named.{IsNamed, AreNamed}, Refusing.{◌>>=◌, ok_if, OpenState, has_goal, has_anchor, finish_root}}
-use Rattle.drive_reports.specs.{Aims.aim_at, Reported.{has_directory}, Targets.{WholeReport, counted_entries, depth_inherited, drive_limit, reported_tree, target_entries, new_tree}}
+use Rattle.drive_reports.specs.{Aims.aim_at, Reported.{has_directory}, Targets.{WholeReport, counted_entries, depth_inherited, drive_limit, is_hidden, reported_tree, target_entries, new_tree}}
 use Rattle.drive_reports.proofs.Aiming.{root_entry}
 use Rattle.drive_reports.specs.declared.report.ReportRoot.{ReportRoot}
 use Rattle.drive_sides.specs.Plans.{whole, IsPlan}
@@ -54,7 +54,7 @@ module _ (c : RepoState) (report : OpenState) (root : ReportRoot) where
   -- what is to stand at the root, by the target
   abbrev root_in : PathValue → Option Entry
   root_in top =
-      if is_at_or_under [] top && stays_in_scope hides_nothing (depth_inherited report.ask) (drive_limit c Whole) (counted_entries c Whole) (target_entries c Whole) top (top_limit (drive_limit c Whole) top) (drop (length top) [])
+      if is_at_or_under [] top && stays_in_scope (is_hidden c Whole) (depth_inherited report.ask) (drive_limit c Whole) (counted_entries c Whole) (target_entries c Whole) top (top_limit (drive_limit c Whole) top) (drop (length top) [])
       then (if is_at_or_under [] top then (aim_at c Whole []).entry else None)
       else None
 
@@ -65,7 +65,7 @@ module _ (c : RepoState) (report : OpenState) (root : ReportRoot) where
   anchored none anchor =
       and_front (is_directory_there (trees_in c.revisions report.ask.revision report.ask.goal)) (has_directory (reported_tree c report.ask report.grafts []))
       (sym (ap (λ b. if b then is_directory_there (trees_in c.revisions report.ask.revision report.ask.goal) && has_directory (reported_tree c report.ask report.grafts [])
-      else is_directory_there (trees_in c.revisions report.ask.revision report.ask.anchor)) none) ∙ anchor)
+      else report.ask.is_of_today || is_directory_there (trees_in c.revisions report.ask.revision report.ask.anchor)) none) ∙ anchor)
 
   pub root_stands : finish_root c report ≡ Ok root → RootStands c Whole
   root_stands finished none =

@@ -2,7 +2,7 @@
 use Rattle.std.proofs.Common.{◌≡◌, ◌≤◌, ℕ, Bool, true, false, not, cond, ◌&&◌, ◌||◌, List, [], ◌∷◌, ◌++◌, length, drop, Option, Some, None, option_map, refl}
 use Rattle.std.proofs.{Common.{sym, ap, ◌∙◌, subst, arith, append-nil, ⊎_elim, if◌then◌else◌}, lemmas.Bool.false≢true}
 use Rattle.std.proofs.{lemmas.List.Elements.{All-nil, All-cons, All-head, All-tail, All-append}, lemmas.Option.none-some}
-use Rattle.std.specs.{List.list_any, Prelude.{All, fold, is_some, map, option_and_then}}
+use Rattle.std.specs.{List.list_any, Option.option_map_or, Prelude.{All, fold, is_some, map, option_and_then}}
 use Rattle.svnpath.specs.{Components.IsComponent, PathLaws.{same_path_is, same_path_refl, under_is}, Paths.{Component, is_at_or_under, PathValue, same_path}}
 use Rattle.svndiff0.specs.Window.{limit}
 use Rattle.repo_api.specs.{Soundness.AreTrees, States.{RepoState, trees_in}, Trees.{is_directory, text_of, Tree}, declared.entry.Entry.Entry}
@@ -15,7 +15,7 @@ use Rattle.reporter.specs.{Nesting.{stands_as, walk}, Visits.{OwnSteps, entry_ki
 use Rattle.reporter.specs.Visits.Visit.{Open, Add, Delete, Close}
 use Rattle.drive_reports.specs.Named.{IsNamed, AreNamed}
 use Rattle.drive_reports.specs.Reported.{ReportedEntry, ReportedTree, left_by, top_entry, reported_as, in_subtree, in_graft, has_place, with_graft}
-use Rattle.drive_reports.specs.{Aims.aim_at, Targets.{WholeReport, client_tree, drive_scope, is_apart, is_stale, is_stale_token, keeps_report, new_tree, old_tree, stale_in, target_entries}}
+use Rattle.drive_reports.specs.{Aims.aim_at, Targets.{WholeReport, client_entries, client_tree, drive_scope, due_in, is_apart, is_stale, is_stale_token, is_to_be_opened, is_written_anew, keeps_report, new_tree, old_tree, stale_in, target_entries}}
 use Rattle.drive_reports.specs.{declared.graft.Graft.Graft, declared.graft.Subtree.Subtree}
 use Rattle.drive_reports.proofs.Aiming.{at_led, entry_is, entry_stands, IsFront, IsLed}
 use Rattle.drive_wire.specs.Sent.{or_no_text}
@@ -179,10 +179,34 @@ module _ (c : RepoState) (report : WholeReport) (trees : AreTrees c.revisions) (
       by None h = absurd (false≢true h)
       by (Some token) h = target_named p (and_front (is_some (target_entries c report p)) _ h)
 
-  reason_named : (q : PathValue) → HasReason (stale_in c report) (is_apart c report) Old New q → IsNamed q
+  -- what a client has in scope
+  had_named : (p : PathValue) → drive_scope c report p ≡ true → is_some (client_tree c report p) ≡ true → IsNamed p
+  had_named p scope some =
+      old_named p (ap (λ b. is_some (cond b (client_entries c report p) None)) scope ∙ mapped_there (client_tree c report p) some)
+    where
+      mapped_there : (o : Option ReportedEntry) → is_some o ≡ true → is_some (option_map (λ (h : ReportedEntry). h.entry) o) ≡ true
+      mapped_there None h = h
+      mapped_there (Some x) h = refl
+
+  due_named : (p : PathValue) → due_in c report p ≡ true → IsNamed p
+  due_named p due = by (is_stale c report p) (is_to_be_opened c report p) refl refl (and_behind (drive_scope c report p) _ due)
+    where
+      scope : drive_scope c report p ≡ true
+      scope = and_front (drive_scope c report p) _ due
+
+      there : (o : Option ReportedEntry) → option_map_or (is_written_anew report.ask) o false ≡ true → is_some o ≡ true
+      there None h = absurd (false≢true h)
+      there (Some x) h = refl
+
+      by : (a b : Bool) → is_stale c report p ≡ a → is_to_be_opened c report p ≡ b → (a || b) ≡ true → IsNamed p
+      by true b stale anew either = stale_named p (ap (λ s. s && is_stale c report p) scope ∙ stale)
+      by false b stale anew either =
+          had_named p scope (there (client_tree c report p) (and_behind (aim_at c report p).stays _ (and_behind report.ask.is_of_today _ (anew ∙ either))))
+
+  reason_named : (q : PathValue) → HasReason (due_in c report) (is_apart c report) Old New q → IsNamed q
   reason_named q reason =
       ⊎_elim (λ root. subst IsNamed (sym root) (All-nil IsComponent))
-      (λ w. named_above q w.0 w.1 (⊎_elim (λ differs. differing w.0 differs) (λ more. ⊎_elim (λ stale. stale_named w.0 stale) (λ both. old_named w.0 both.0.0) more) w.2)) reason
+      (λ w. named_above q w.0 w.1 (⊎_elim (λ differs. differing w.0 differs) (λ more. ⊎_elim (λ due. due_named w.0 due) (λ both. old_named w.0 both.0.0) more) w.2)) reason
 
   -- ---- visits
 

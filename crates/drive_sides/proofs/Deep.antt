@@ -1,13 +1,13 @@
 -- How deep a drive goes, and which children it leaves out.
-use Rattle.std.proofs.Common.{◌≡◌, get_or, ◌+◌, ◌<◌, ◌≤◌, ℕ, Bool, true, false, ◌&&◌, List, [], ◌∷◌, ◌++◌, length, drop, refl, sym, ap, ◌∙◌, subst}
+use Rattle.std.proofs.Common.{◌≡◌, get_or, not, ◌+◌, ◌<◌, ◌≤◌, ℕ, Bool, true, false, ◌&&◌, List, [], ◌∷◌, ◌++◌, length, drop, refl, sym, ap, ◌∙◌, subst}
 use Rattle.std.proofs.{lemmas.Bool.false≢true, lemmas.List.append_assoc}
 use Rattle.svnpath.specs.{PathLaws.{rest_append, under_is}, Paths.{Component, is_at_or_under, PathValue}}
 use Rattle.repo_api.specs.{States.RepoState, Trees.Tree}
 use Rattle.drive_rules.proofs.Joined.{and_front}
 use Rattle.drive_rules.specs.declared.depth.Depth.{Depth}
-use Rattle.drive_rules.specs.Scopes.{depth_said, DepthLimit, hides_nothing, includes, own_or_inherited, scope_of, stays_in_scope, top_limit}
+use Rattle.drive_rules.specs.Scopes.{depth_said, DepthLimit, includes, own_or_inherited, scope_of, stays_in_scope, top_limit}
 use Rattle.drive_rules.specs.declared.depth.Depth.TheVariants.{Empty, Files, Immediates, Infinity}
-use Rattle.drive_reports.specs.Targets.{WholeReport, counted_entries, depth_inherited, depth_kept, drive_limit, drive_scope, first_depth, limit_of, target_entries}
+use Rattle.drive_reports.specs.Targets.{WholeReport, counted_entries, depth_inherited, depth_kept, drive_limit, drive_scope, first_depth, is_hidden, limit_of, target_entries}
 use Rattle.drive_reports.proofs.Aiming.{counted_some}
 use Rattle.drive_reports.specs.declared.ask.DepthAsked.{DepthAsked}
 use Rattle.drive_reports.specs.declared.ask.DepthAsked.TheVariants as asks
@@ -40,15 +40,16 @@ and_right true b h = h
 and_right false b h = absurd (false≢true h)
 
 -- a child in scope is let in by its directory
-child_let_in : (inherited : Depth → Depth) (limit : DepthLimit) (old new : Tree) (here : PathValue) (depth : Depth) (rest : List Component) (c : Component)
-    → stays_in_scope hides_nothing inherited limit old new here depth (rest ++ c ∷ []) ≡ true
+child_let_in : (hides : PathValue → Bool) (inherited : Depth → Depth) (limit : DepthLimit) (old new : Tree) (here : PathValue) (depth : Depth) (rest : List Component) (c : Component)
+    → stays_in_scope hides inherited limit old new here depth (rest ++ c ∷ []) ≡ true
     → includes limit old new (depth_down inherited limit here depth rest) (here ++ (rest ++ c ∷ [])) ≡ true
-child_let_in inherited limit old new here depth [] c h = and_front (includes limit old new depth (here ++ c ∷ [])) true h
-child_let_in inherited limit old new here depth (x ∷ rest) c h =
+child_let_in hides inherited limit old new here depth [] c h = and_front (includes limit old new depth (here ++ c ∷ [])) true (and_right (not (hides (here ++ c ∷ []))) _ h)
+child_let_in hides inherited limit old new here depth (x ∷ rest) c h =
     subst (λ (p : PathValue). includes limit old new (depth_down inherited limit (here ++ x ∷ []) (own_or_inherited inherited (depth_said limit (here ++ x ∷ [])) depth) rest) p ≡ true)
     (append_assoc here (x ∷ []) (rest ++ c ∷ []))
-    (child_let_in inherited limit old new (here ++ x ∷ []) (own_or_inherited inherited (depth_said limit (here ++ x ∷ [])) depth) rest c
-    (and_right (includes limit old new depth (here ++ x ∷ [])) (stays_in_scope hides_nothing inherited limit old new (here ++ x ∷ []) (own_or_inherited inherited (depth_said limit (here ++ x ∷ [])) depth) (rest ++ c ∷ [])) h))
+    (child_let_in hides inherited limit old new (here ++ x ∷ []) (own_or_inherited inherited (depth_said limit (here ++ x ∷ [])) depth) rest c
+    (and_right (includes limit old new depth (here ++ x ∷ [])) (stays_in_scope hides inherited limit old new (here ++ x ∷ []) (own_or_inherited inherited (depth_said limit (here ++ x ∷ [])) depth) (rest ++ c ∷ []))
+    (and_right (not (hides (here ++ x ∷ []))) _ h)))
 
 rest_more : (p top : PathValue) (c : Component) → is_at_or_under p top ≡ true
     → drop (length top) (p ++ c ∷ []) ≡ drop (length top) p ++ c ∷ []
@@ -56,15 +57,15 @@ rest_more p top c up =
     ap (drop (length top)) (ap (λ q. q ++ c ∷ []) (under_is p top up) ∙ append_assoc top (drop (length top) p) (c ∷ []))
     ∙ rest_append top (drop (length top) p ++ c ∷ [])
 
-let_in : (inherited : Depth → Depth) (limit : DepthLimit) (old new : Tree) (top p : PathValue) (c : Component) → is_at_or_under p top ≡ true
-    → scope_of hides_nothing inherited limit old new top (p ++ c ∷ []) ≡ true
+let_in : (hides : PathValue → Bool) (inherited : Depth → Depth) (limit : DepthLimit) (old new : Tree) (top p : PathValue) (c : Component) → is_at_or_under p top ≡ true
+    → scope_of hides inherited limit old new top (p ++ c ∷ []) ≡ true
     → includes limit old new (depth_down inherited limit top (top_limit limit top) (drop (length top) p)) (p ++ c ∷ []) ≡ true
-let_in inherited limit old new top p c up h =
+let_in hides inherited limit old new top p c up h =
     subst (λ (q : PathValue). includes limit old new (depth_down inherited limit top (top_limit limit top) (drop (length top) p)) q ≡ true)
     (sym (append_assoc top (drop (length top) p) (c ∷ [])) ∙ sym (ap (λ q. q ++ c ∷ []) (under_is p top up)))
-    (child_let_in inherited limit old new top (top_limit limit top) (drop (length top) p) c
-    (sym (ap (stays_in_scope hides_nothing inherited limit old new top (top_limit limit top)) (rest_more p top c up))
-    ∙ and_right (is_at_or_under (p ++ c ∷ []) top) (stays_in_scope hides_nothing inherited limit old new top (top_limit limit top) (drop (length top) (p ++ c ∷ []))) h))
+    (child_let_in hides inherited limit old new top (top_limit limit top) (drop (length top) p) c
+    (sym (ap (stays_in_scope hides inherited limit old new top (top_limit limit top)) (rest_more p top c up))
+    ∙ and_right (is_at_or_under (p ++ c ∷ []) top) (stays_in_scope hides inherited limit old new top (top_limit limit top) (drop (length top) (p ++ c ∷ []))) h))
 
 if_not : (b : Bool) → (b ≡ true → ⊥) → b ≡ false
 if_not true h = absurd (h refl)
@@ -88,7 +89,7 @@ reaches c report p depth up is = by depth report.ask.depth is refl
         → drive_scope c report (p ++ x ∷ []) ≡ true → includes (limit_of (depth_kept c report) (first_depth c report) asked) old new Empty (p ++ x ∷ []) ≡ true
     there asked is_asked end x h =
         subst (λ (limit : DepthLimit). includes limit old new Empty (p ++ x ∷ []) ≡ true) (ap (limit_of (depth_kept c report) (first_depth c report)) is_asked)
-        (ap (λ (d : Depth). includes (drive_limit c report) old new d (p ++ x ∷ [])) end ∙ let_in (depth_inherited report.ask) (drive_limit c report) old new top p x up h)
+        (ap (λ (d : Depth). includes (drive_limit c report) old new d (p ++ x ∷ [])) end ∙ let_in (is_hidden c report) (depth_inherited report.ask) (drive_limit c report) old new top p x up h)
 
     by : (d : Depth) (asked : DepthAsked) → d ≡ depth_at c report p → report.ask.depth ≡ asked → Reaches (reach_of d asked) c report p
     by Files asked end is_asked = tt

@@ -17,7 +17,7 @@ use Rattle.reporter.proofs.{Children.{AreDistinct, children_all, children_are}, 
 use Rattle.reporter.specs.{Left.IsLeft, Visiting.MayVisit, Walks.IsListed, Visits.Visit, declared.visitor.Visitor.Visitor}
 use Rattle.drive_reports.proofs.Holding.{comparable}
 use Rattle.drive_reports.specs.Reported.{ReportedTree, has_place, in_graft, in_subtree, left_by, reported_as, with_graft}
-use Rattle.drive_reports.specs.{Aims.aim_at, Targets.{WholeReport, new_tree, old_tree, stale_in}, declared.graft.Graft.Graft, declared.graft.Subtree.Subtree}
+use Rattle.drive_reports.specs.{Aims.aim_at, Targets.{WholeReport, due_in, new_tree, old_tree}, declared.graft.Graft.Graft, declared.graft.Subtree.Subtree}
 use Rattle.drive_sides.proofs.{Listing.{among_over, among_target, above_child, in_new, in_old, under_target}, Naming.among_there}
 use Rattle.drive_sides.specs.{BoundLaws.new_is_shorter, Bounds.path_bound, LeadLaws.news_leads, Names.{children_of, graft_names, is_name_among}}
 use Rattle.drive_sides.specs.Plans.{drive_trees}
@@ -78,9 +78,9 @@ alike_or_not (Some x) None = inl (λ s. false≢true (sym (ap is_some s.0)))
 alike_or_not (Some x) (Some y) = both_there x y (same_revision (revision_of x.last) (revision_of y.last)) (same_content x.content y.content)
 
 decided : (c : RepoState) (report : WholeReport) (p : PathValue) → IsDecided (drive_trees c report) p
-decided c report p = by (stale_in c report p) refl (alike_or_not (old_tree c report p) (new_tree c report p))
+decided c report p = by (due_in c report p) refl (alike_or_not (old_tree c report p) (new_tree c report p))
   where
-    by : (b : Bool) → stale_in c report p ≡ b → AreUnlike (old_tree c report p) (new_tree c report p) ⊎ AreLike (old_tree c report p) (new_tree c report p) → IsDecided (drive_trees c report) p
+    by : (b : Bool) → due_in c report p ≡ b → AreUnlike (old_tree c report p) (new_tree c report p) ⊎ AreLike (old_tree c report p) (new_tree c report p) → IsDecided (drive_trees c report) p
     by true stale any = inl (inr stale)
     by false quiet (inl unlike) = inl (inl unlike)
     by false quiet (inr like) = inr (record { node = like.0; created = like.1; quiet = quiet })

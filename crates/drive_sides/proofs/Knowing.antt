@@ -1,17 +1,16 @@
 -- What is known of the paths of a drive, and in their lists.
-use Rattle.std.proofs.{Common.{◌≡◌, ◌+◌, ◌<◌, ◌≤◌, ℕ, Bool, true, false, cond, ◌&&◌, List, [], ◌∷◌, ◌++◌, length, drop, get_or, Option, None, option_map, inl, inr, sym, ap, ◌∙◌, refl, subst}, lemmas.{Bool.false≢true, List.{append_assoc, append-nil, map-append}}}
-use Rattle.std.specs.Prelude.{IfOk, Result, Ok, Err, Some, is_some}
+use Rattle.std.proofs.{Common.{◌≡◌, Bool, true, false, cond, ◌&&◌, List, [], ◌∷◌, ◌++◌, length, drop, Option, None, option_map, inl, inr, sym, ap, ◌∙◌, refl, subst}, lemmas.{Bool.false≢true, List.{append_assoc, map-append}}}
+use Rattle.std.specs.{Option.option_map_or, Prelude.{IfOk, Result, Ok, Err, Some, is_some}}
 use Rattle.svnpath.specs.{PathLaws.{rest_append, under_append}, Paths.{Component, is_at_or_under, PathValue}}
 use Rattle.repo_api.specs.{Histories.history_of, Kinds.kind_of, States.{RepoState, trees_in}, declared.entry.Entry.Entry, declared.entry.NodeKind.NodeKind}
 use Rattle.history.specs.{Lines.is_one_line, Logs.place_at}
 use Rattle.drive_rules.proofs.Entries.{under_more}
 use Rattle.reporter.specs.{Knowing.{IsKnownAt, paths_of}, Walks.{AreAlike, IsChild, LeavesUnlike, WalkedTrees}, declared.known_path.KnownPath.KnownPath}
 use Rattle.drive_reports.specs.{Aims.{Aim, aim_at, aim_of, are_of_one_kind, entry_led, is_of_line, keeps_line}, Links.{led_to, link_at}, Places.reported_subtree, Reported.{ReportedEntry, reported_as, top_entry}}
-use Rattle.drive_reports.specs.{Targets.{WholeReport, client_entries, client_tree, counted_entries}, declared.graft.Subtree.Subtree, declared.reported.ReportedPlace.ReportedPlace}
+use Rattle.drive_reports.specs.{Targets.{WholeReport, client_entries, client_tree, counted_entries, is_written_anew}, declared.graft.Subtree.Subtree, declared.reported.ReportedPlace.ReportedPlace}
 use Rattle.drive_reports.specs.declared.graft.Graft.{Graft}
 use Rattle.drive_reports.proofs.Aiming.{aim_child}
-use Rattle.drive_sides.proofs.Reaching.{next_name, no_more}
-use Rattle.drive_sides.specs.{Known.{holder_at, IsHadAt, IsKnownOf, IsLedBy, IsLedFrom}, declared.known.DriveKnown.DriveKnown, declared.leading.Holder.Holder}
+use Rattle.drive_sides.specs.{Depths.IsOfPlace, Known.{holder_at, IsHadAt, IsKnownOf, IsLedBy, IsLedFrom}, declared.known.DriveKnown.DriveKnown, declared.leading.Holder.Holder}
 
 -- what is in a directory at or under the target is under it
 pub child_in : (top p x : PathValue) → is_at_or_under p top ≡ true → IsChild p x → is_at_or_under x top ≡ true
@@ -26,10 +25,6 @@ rebased_child p x base name is = ap (λ y. base ++ drop (length p) y) is ∙ ap 
 -- ---- what is left of paths
 
 module _ (t : WalkedTrees) where
-  -- all is left
-  pub all_left : (paths : List PathValue) (kept : List PathValue) (rest : List PathValue) → kept ≡ [] → LeavesUnlike t paths rest → LeavesUnlike t paths (kept ++ rest)
-  all_left paths kept rest none left = subst (λ ks. LeavesUnlike t paths (ks ++ rest)) (sym none) left
-
   -- the next is not, where it is alike
   pub next_out : (left after : List PathValue) (x : PathValue) (rest : List PathValue) → left ≡ x ∷ after → AreAlike t x → LeavesUnlike t after rest → LeavesUnlike t left rest
   next_out left after x rest is alike leaves = subst (λ ps. LeavesUnlike t ps rest) (sym is) (inl (alike, leaves))
@@ -70,6 +65,13 @@ child_aim c report holder p x own under (name, child) says is =
 counted_entry : (b : Bool) (o : Option ReportedEntry) → cond b (option_map (λ (h : ReportedEntry). h.entry) o) None ≡ option_map (λ (h : ReportedEntry). h.entry) (cond b o None)
 counted_entry true o = refl
 counted_entry false o = refl
+
+-- what is reported of a path in a directory counts where the directory says so
+pub counts_child : (c : RepoState) (report : WholeReport) (holder : Holder) (p x : PathValue) → is_at_or_under p report.ask.target ≡ true → IsChild p x → holder ≡ holder_at c report p
+    → (aim_at c report x).counts ≡ holder.counts
+counts_child c report holder p x under (name, child) says =
+    ap (λ (a : Aim). a.counts) (ap (aim_at c report) child ∙ aim_child c report p name under)
+    ∙ sym (ap (λ (h : Holder). h.counts) says)
 
 -- what counts of what is had in a directory, by what the directory says
 pub counted_child : (c : RepoState) (report : WholeReport) (holder : Holder) (p x : PathValue) → is_at_or_under p report.ask.target ≡ true → IsChild p x → holder ≡ holder_at c report p
@@ -158,15 +160,25 @@ of_line_at c report p from place had =
 pub of_no_line : (c : RepoState) (report : WholeReport) (p from : PathValue) → IsHadAt c report p None → is_of_line c report.ask (client_tree c report p) from ≡ false
 of_no_line c report p from had = ap (λ o. is_of_line c report.ask o from) had.here
 
--- ---- one name after another
+-- ---- what is written down anew
 
--- the next name leads one step further down
-pub one_down : (names : List Component) (i : ℕ) (x copy : Component) (here child next whole : PathValue) → i < length names → x ≡ get_or names i x → copy ≡ x → child ≡ here ++ copy ∷ [] → next ≡ child
-    → here ++ drop i names ≡ whole → next ++ drop (i + 1) names ≡ whole
-one_down names i x copy here child next whole lt is same made led so =
-    ap (λ p. p ++ drop (i + 1) names) (led ∙ made ∙ ap (λ y. here ++ y ∷ []) same) ∙ append_assoc here (x ∷ []) (drop (i + 1) names)
-    ∙ ap (λ r. here ++ r) (sym (next_name names i x lt is)) ∙ so
+-- what is had at a place is of the place
+pub anew_at : (c : RepoState) (report : WholeReport) (p : PathValue) (place : ReportedPlace) (r : Bool) → IsHadAt c report p (Some place)
+    → ((h : ReportedEntry) → IsOfPlace place h → r ≡ is_written_anew report.ask h) → r ≡ option_map_or (is_written_anew report.ask) (client_tree c report p) false
+anew_at c report p place r had of = by (client_tree c report p) refl
+  where
+    part : Subtree
+    part = reported_subtree place.revision place.starts_empty place.depth place.token
 
--- and all of them lead to the whole path
-pub all_down : (names : List Component) (i : ℕ) (here whole : PathValue) → length names ≤ i → here ++ drop i names ≡ whole → here ≡ whole
-all_down names i here whole le so = sym (append-nil here) ∙ ap (λ r. here ++ r) (sym (no_more names i le)) ∙ so
+    shown : Entry → ReportedEntry
+    shown e = reported_as part place.path part.depth part.token (top_entry part.starts_empty e)
+
+    of_shown : (o : Option Entry) (h : ReportedEntry) → Some h ≡ option_map shown o → (h.starts_empty ≡ place.starts_empty) × (h.depth ≡ place.depth)
+    of_shown None h e = absurd (cc e)
+    of_shown (Some x) h e = let same : h ≡ shown x = cc e in (ap (λ y. y.starts_empty) same, ap (λ y. y.depth) same)
+
+    by : (o : Option ReportedEntry) → client_tree c report p ≡ o → r ≡ option_map_or (is_written_anew report.ask) o false
+    by None is = absurd (false≢true (sym (had.stands ∙ ap is_some is)))
+    by (Some h) is =
+        let from = of_shown (trees_in c.revisions place.revision place.path) h (sym is ∙ had.here) in
+        of h (record { kind = had.kind ∙ ap (λ o. kind_of (option_map (λ (y : ReportedEntry). y.entry) o)) is; starts_empty = from.0; depth = from.1 })

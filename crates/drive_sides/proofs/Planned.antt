@@ -1,19 +1,19 @@
 -- The plan of a drive.
-use Rattle.std.proofs.Common.{◌≡◌, ◌==◌, ◌+◌, not, option_map, Bool, true, false, cond, ◌&&◌, List, [], ◌∷◌, length, Option, Some, None, Ok, refl}
+use Rattle.std.proofs.Common.{◌≡◌, ◌==◌, ◌+◌, not, option_map, Bool, true, false, cond, ◌&&◌, ◌||◌, List, [], ◌∷◌, length, Option, Some, None, Ok, refl}
 use Rattle.std.proofs.{Common.{sym, ap, ◌∙◌, subst}, lemmas.Bool.false≢true}
 use Rattle.drive_rules.proofs.Joined.{or_right}
 use Rattle.std.specs.Prelude.{ok_or, is_some, IsSomeAnd, IsTrue}
 use Rattle.svnpath.specs.{PathLaws.{same_path_is, same_path_refl}, Paths.{is_at_or_under, PathValue, same_path}}
 use Rattle.refusals.specs.declared.Refusal.TheVariants as refusals
 use Rattle.repo_api.specs.{Soundness.AreTrees, States.{RepoState, trees_in}, Trees.{HasDirectory, is_directory, is_directory_there}, declared.entry.Entry.Entry}
-use Rattle.drive_rules.specs.{Places.is_in_directory, Drives.{IsInBoth, IsOfOneKind}, Scopes.{below, hides_nothing, scope_of, under}}
+use Rattle.drive_rules.specs.{Places.is_in_directory, Drives.{IsInBoth, IsOfOneKind}, Scopes.{below, scope_of, under}}
 use Rattle.drive_wire.specs.Sent.{seen_by}
 use Rattle.drive_news.specs.News.{own_steps_of}
 use Rattle.reporter.specs.{Left.{IsRootPlan, IsTopPlan}, Nesting.AreNested, Visits.IsRightPlan, Walks.BothHold, Visits.Visit}
 use Rattle.reporter.specs.Visits.Visit.{Open}
 use Rattle.drive_reports.proofs.{Aiming.{apart_under, both_directories, one_kind, other_stays, root_entry, root_stays, stays_kind}, Drives.both_hold}
 use Rattle.drive_reports.specs.{Refusing.{OpenState, ◌>>=◌, ok_if, has_goal, has_anchor, finish_root}, Reported.{ReportedEntry, reported_entries}}
-use Rattle.drive_reports.specs.{Aims.aim_at, Targets.{WholeReport, client_entries, client_tree, counted_entries, depth_inherited, drive_limit, drive_scope, reported_tree, is_apart, old_tree, new_tree, stale_in, target_entries}}
+use Rattle.drive_reports.specs.{Aims.aim_at, Targets.{WholeReport, client_entries, client_tree, counted_entries, depth_inherited, drive_limit, drive_scope, due_in, reported_tree, is_apart, is_hidden, old_tree, new_tree, target_entries}}
 use Rattle.drive_reports.specs.declared.report.ReportRoot.{ReportRoot}
 use Rattle.drive_reports.specs.Reported as reported
 use Rattle.drive_sides.specs.Plans.{IsPlan, drive_trees, whole}
@@ -41,13 +41,13 @@ both_anchors : (c : RepoState) (report : OpenState) (root : ReportRoot) → fini
     → (is_directory_there (trees_in c.revisions report.ask.revision report.ask.goal) && reported.has_directory (reported_tree c report.ask report.grafts [])) ≡ true
 both_anchors c report root h top =
     sym (ap (λ b. cond b (is_directory_there (trees_in c.revisions report.ask.revision report.ask.goal) && reported.has_directory (reported_tree c report.ask report.grafts []))
-    (is_directory_there (trees_in c.revisions report.ask.revision report.ask.anchor))) top)
+    (report.ask.is_of_today || is_directory_there (trees_in c.revisions report.ask.revision report.ask.anchor))) top)
     ∙ anchored c report root h
 
 -- the root stands on both sides where there is no target
 scope_root : (c : RepoState) (report : OpenState) (root : ReportRoot) → report.ask.target ≡ [] → drive_scope c (whole report root) [] ≡ true
 scope_root c report root is =
-    ap (λ (t : PathValue). scope_of hides_nothing (depth_inherited report.ask) (drive_limit c (whole report root)) (counted_entries c (whole report root)) (target_entries c (whole report root)) t []) is
+    ap (λ (t : PathValue). scope_of (is_hidden c (whole report root)) (depth_inherited report.ask) (drive_limit c (whole report root)) (counted_entries c (whole report root)) (target_entries c (whole report root)) t []) is
 
 same_root : (target : PathValue) → target ≡ [] → same_path target [] ≡ true
 same_root target is = ap (λ t. same_path t []) is
@@ -94,7 +94,7 @@ root_kept c report root done is =
 -- ---- plans
 
 abbrev pub IsRightFor : RepoState → WholeReport → PathValue → List Visit → Type 0
-IsRightFor c report top visits = IsRightPlan (seen_by report.ask.purpose) (under top) (stale_in c report) (is_apart c report) (old_tree c report) (new_tree c report) (own_steps_of c report) visits
+IsRightFor c report top visits = IsRightPlan (seen_by report.ask.purpose) (under top) (due_in c report) (is_apart c report) (old_tree c report) (new_tree c report) (own_steps_of c report) visits
 
 -- what is in scope is there
 scoped : (b : Bool) (o : Option Entry) → is_some (cond b o None) ≡ true → b ≡ true

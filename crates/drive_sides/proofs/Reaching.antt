@@ -4,12 +4,14 @@ use Rattle.std.proofs.{Common.{drop, refl, sym, ap, ◌∙◌, if◌then◌else�
 use Rattle.svnpath.specs.Paths.{Component, is_at_or_under, PathValue}
 use Rattle.repo_api.specs.{States.{RepoState, trees_in}, Trees.Tree, declared.entry.Entry.Entry}
 use Rattle.drive_rules.specs.declared.depth.Depth.{Depth}
-use Rattle.drive_rules.specs.Scopes.{depth_added, depth_below, depth_said, DepthLimit, hides_nothing, includes, own_or_inherited, scope_of, stays_in_scope, top_limit}
+use Rattle.drive_rules.specs.Scopes.{depth_added, depth_below, depth_said, DepthLimit, includes, own_or_inherited, scope_of, stays_in_scope, top_limit}
 use Rattle.drive_rules.specs.{Scopes.DepthLimit.{Given, Reported}, declared.depth.Depth.TheVariants.{Empty, Files, Immediates, Infinity}}
 use Rattle.std.specs.{Prelude.{Option, Some, None, cond, is_some, fold, option_map, option_and_then}, List.list_any, Option.option_map_or}
 use Rattle.drive_reports.specs.Reported.{ReportedEntry, ReportedTree, reported_as, top_entry, left_by, in_subtree, in_graft, with_graft}
 use Rattle.drive_reports.specs.{Reported.{has_place, has_directory}, declared.ask.DriveAsk.DriveAsk, declared.graft.Graft.Graft, declared.graft.Subtree.Subtree}
-use Rattle.drive_reports.specs.{Targets.{WholeReport, client_tree, counted_entries, depth_inherited, depth_kept, drive_scope, first_depth, keeps_report, limit_of, reported_depth, target_entries}, Depths.{is_shallow, is_to_the_end}}
+use Rattle.drive_reports.specs.{Targets.{WholeReport, client_tree, counted_entries, depth_inherited, depth_kept, drive_scope, first_depth, is_hidden, keeps_report, limit_of, reported_depth, target_entries}, Aims.aim_at, Depths.{asks_for_all, is_shallow, is_to_the_end}, Links.is_excluding}
+use Rattle.drive_reports.proofs.Linking.{none_excluded}
+use Rattle.drive_reports.specs.declared.ask.DepthAsked.{DepthAsked}
 use Rattle.drive_sides.specs.Depths.{FollowsWholeReport}
 use Rattle.drive_rules.proofs.Joined.{or_false}
 use Rattle.drive_reports.specs.declared.ask.DepthAsked.TheVariants as asks
@@ -22,49 +24,92 @@ inherits_all ask = by ask.is_of_today
     by true = refl
     by false = refl
 
-all_reached : (inherited : Depth → Depth) → inherited Infinity ≡ Infinity → (old new : Tree) (here : PathValue) (names : List Component) → stays_in_scope hides_nothing inherited (Given Infinity) old new here Infinity names ≡ true
-all_reached inherited all old new here [] = refl
-all_reached inherited all old new here (c ∷ names) =
-    ap (λ d. stays_in_scope hides_nothing inherited (Given Infinity) old new (here ++ c ∷ []) d names) all ∙ all_reached inherited all old new (here ++ c ∷ []) names
+-- nothing is hidden
+abbrev HidesNothing : (PathValue → Bool) → Type 0
+HidesNothing hides = (q : PathValue) → hides q ≡ false
 
--- a drive to the end is of all that is at or under its top
-pub all_in_scope : (inherited : Depth → Depth) → inherited Infinity ≡ Infinity → (old new : Tree) (top q : PathValue) → is_at_or_under q top ≡ true → scope_of hides_nothing inherited (Given Infinity) old new top q ≡ true
-all_in_scope inherited all old new top q up = ap (λ b. b && stays_in_scope hides_nothing inherited (Given Infinity) old new top Infinity (drop (length top) q)) up ∙ all_reached inherited all old new top (drop (length top) q)
+all_reached : (hides : PathValue → Bool) (inherited : Depth → Depth) → HidesNothing hides → inherited Infinity ≡ Infinity → (old new : Tree) (here : PathValue) (names : List Component)
+    → stays_in_scope hides inherited (Given Infinity) old new here Infinity names ≡ true
+all_reached hides inherited free all old new here [] = refl
+all_reached hides inherited free all old new here (c ∷ names) =
+    ap (λ h. not h && stays_in_scope hides inherited (Given Infinity) old new (here ++ c ∷ []) (inherited Infinity) names) (free (here ++ c ∷ []))
+    ∙ ap (λ d. stays_in_scope hides inherited (Given Infinity) old new (here ++ c ∷ []) d names) all ∙ all_reached hides inherited free all old new (here ++ c ∷ []) names
+
+-- a drive to the end is of all that is at or under its top, where nothing is hidden
+pub all_in_scope : (hides : PathValue → Bool) (inherited : Depth → Depth) → HidesNothing hides → inherited Infinity ≡ Infinity → (old new : Tree) (top q : PathValue) → is_at_or_under q top ≡ true
+    → scope_of hides inherited (Given Infinity) old new top q ≡ true
+all_in_scope hides inherited free all old new top q up =
+    ap (λ b. b && stays_in_scope hides inherited (Given Infinity) old new top Infinity (drop (length top) q)) up ∙ all_reached hides inherited free all old new top (drop (length top) q)
+
+-- nothing is hidden where no graft excludes its path
+none_hidden : (c : RepoState) (report : WholeReport) → list_any is_excluding report.grafts ≡ false → HidesNothing (is_hidden c report)
+none_hidden c report none q = and_nothing (aim_at c report q).counts (and_nothing (is_some (aim_at c report q).entry) (none_excluded q report.grafts none))
+  where
+    and_nothing : (a : Bool) {b : Bool} → b ≡ false → (a && b) ≡ false
+    and_nothing true h = h
+    and_nothing false h = refl
 
 -- ---- one name after another
 
 -- so far down nothing has left the scope
-abbrev pub IsSoFar : (Depth → Depth) → DepthLimit → Tree → Tree → PathValue → PathValue → PathValue → Depth → List Component → Type 0
-IsSoFar inherited limit old new top q here depth names = stays_in_scope hides_nothing inherited limit old new top (top_limit limit top) (drop (length top) q) ≡ stays_in_scope hides_nothing inherited limit old new here depth names
+abbrev pub IsSoFar : (PathValue → Bool) → (Depth → Depth) → DepthLimit → Tree → Tree → PathValue → PathValue → PathValue → Depth → List Component → Type 0
+IsSoFar hides inherited limit old new top q here depth names =
+    stays_in_scope hides inherited limit old new top (top_limit limit top) (drop (length top) q) ≡ stays_in_scope hides inherited limit old new here depth names
 
 pub next_name : (names : List Component) (i : ℕ) (x : Component) → i < length names → x ≡ get_or names i x → drop i names ≡ x ∷ drop (i + 1) names
 next_name names i x h is = (rw (add-one, drop-cons names i x) refl) ∙ ap (λ y. y ∷ drop (i + 1) names) (sym is)
-
-next_step : (inherited : Depth → Depth) (limit : DepthLimit) (old new : Tree) (here child : PathValue) (depth : Depth) (names : List Component) (i : ℕ) (x : Component) → i < length names → x ≡ get_or names i x → child ≡ here ++ x ∷ []
-    → stays_in_scope hides_nothing inherited limit old new here depth (drop i names) ≡ (includes limit old new depth child && stays_in_scope hides_nothing inherited limit old new child (own_or_inherited inherited (depth_said limit child) depth) (drop (i + 1) names))
-next_step inherited limit old new here child depth names i x lt is child_is =
-    ap (stays_in_scope hides_nothing inherited limit old new here depth) (next_name names i x lt is)
-    ∙ ap (λ p. includes limit old new depth p && stays_in_scope hides_nothing inherited limit old new p (own_or_inherited inherited (depth_said limit p) depth) (drop (i + 1) names)) (sym child_is)
 
 pub was_true : (b : Bool) → not b ≡ false → b ≡ true
 was_true true h = refl
 was_true false h = absurd (false≢true (sym h))
 
-pub stops : (inherited : Depth → Depth) (limit : DepthLimit) (old new : Tree) (top q here child : PathValue) (depth : Depth) (names : List Component) (i : ℕ) (x : Component) (b : Bool) → is_at_or_under q top ≡ true
-    → IsSoFar inherited limit old new top q here depth (drop i names) → i < length names → x ≡ get_or names i x → child ≡ here ++ x ∷ [] → b ≡ includes limit old new depth child → b ≡ false
-    → false ≡ scope_of hides_nothing inherited limit old new top q
-stops inherited limit old new top q here child depth names i x b up far lt is child_is lets none =
-    sym (ap (λ u. u && stays_in_scope hides_nothing inherited limit old new top (top_limit limit top) (drop (length top) q)) up
-    ∙ far ∙ next_step inherited limit old new here child depth names i x lt is child_is
-    ∙ ap (λ u. u && stays_in_scope hides_nothing inherited limit old new child (own_or_inherited inherited (depth_said limit child) depth) (drop (i + 1) names)) (sym lets ∙ none))
+pub was_false : (b : Bool) → not b ≡ true → b ≡ false
+was_false true h = absurd (false≢true h)
+was_false false h = refl
 
-pub goes_on : (inherited : Depth → Depth) (limit : DepthLimit) (old new : Tree) (top q here child : PathValue) (depth next : Depth) (names : List Component) (i : ℕ) (x : Component) (b : Bool)
-    → IsSoFar inherited limit old new top q here depth (drop i names) → i < length names → x ≡ get_or names i x → child ≡ here ++ x ∷ [] → b ≡ includes limit old new depth child → b ≡ true
-    → next ≡ own_or_inherited inherited (depth_said limit child) depth → IsSoFar inherited limit old new top q child next (drop (i + 1) names)
-goes_on inherited limit old new top q here child depth next names i x b far lt is child_is lets some next_is =
-    far ∙ next_step inherited limit old new here child depth names i x lt is child_is
-    ∙ ap (λ u. u && stays_in_scope hides_nothing inherited limit old new child (own_or_inherited inherited (depth_said limit child) depth) (drop (i + 1) names)) (sym lets ∙ some)
-    ∙ ap (λ d. stays_in_scope hides_nothing inherited limit old new child d (drop (i + 1) names)) (sym next_is)
+module _ (hides : PathValue → Bool) (inherited : Depth → Depth) (limit : DepthLimit) (old new : Tree) (top q : PathValue) where
+  abbrev Stays : PathValue → Depth → List Component → Bool
+  Stays here depth names = stays_in_scope hides inherited limit old new here depth names
+
+  -- whether the next name stays in scope, and what is beneath it
+  next_step : (here child : PathValue) (depth : Depth) (names : List Component) (i : ℕ) (x : Component) → i < length names → x ≡ get_or names i x → child ≡ here ++ x ∷ []
+      → Stays here depth (drop i names) ≡ (not (hides child) && (includes limit old new depth child && Stays child (own_or_inherited inherited (depth_said limit child) depth) (drop (i + 1) names)))
+  next_step here child depth names i x lt is child_is =
+      ap (Stays here depth) (next_name names i x lt is)
+      ∙ ap (λ p. not (hides p) && (includes limit old new depth p && Stays p (own_or_inherited inherited (depth_said limit p) depth) (drop (i + 1) names))) (sym child_is)
+
+  -- what is hidden does not
+  pub hidden_stops : (here child : PathValue) (depth : Depth) (names : List Component) (i : ℕ) (x : Component) (b : Bool) → is_at_or_under q top ≡ true
+      → IsSoFar hides inherited limit old new top q here depth (drop i names) → i < length names → x ≡ get_or names i x → child ≡ here ++ x ∷ [] → b ≡ hides child → b ≡ true
+      → false ≡ scope_of hides inherited limit old new top q
+  hidden_stops here child depth names i x b up far lt is child_is hidden some =
+      sym (ap (λ u. u && Stays top (top_limit limit top) (drop (length top) q)) up
+      ∙ far ∙ next_step here child depth names i x lt is child_is
+      ∙ ap (λ u. not u && (includes limit old new depth child && Stays child (own_or_inherited inherited (depth_said limit child) depth) (drop (i + 1) names))) (sym hidden ∙ some))
+
+  -- nor does what the directory does not let in
+  pub stops : (here child : PathValue) (depth : Depth) (names : List Component) (i : ℕ) (x : Component) (b : Bool) → is_at_or_under q top ≡ true
+      → IsSoFar hides inherited limit old new top q here depth (drop i names) → i < length names → x ≡ get_or names i x → child ≡ here ++ x ∷ [] → b ≡ includes limit old new depth child → b ≡ false
+      → false ≡ scope_of hides inherited limit old new top q
+  stops here child depth names i x b up far lt is child_is lets none =
+      sym (ap (λ u. u && Stays top (top_limit limit top) (drop (length top) q)) up
+      ∙ far ∙ next_step here child depth names i x lt is child_is
+      ∙ ap (λ u. not (hides child) && (u && Stays child (own_or_inherited inherited (depth_said limit child) depth) (drop (i + 1) names))) (sym lets ∙ none)
+      ∙ either (not (hides child)))
+    where
+      either : (h : Bool) → (h && false) ≡ false
+      either true = refl
+      either false = refl
+
+  -- what is let in and not hidden does
+  pub goes_on : (here child : PathValue) (depth next : Depth) (names : List Component) (i : ℕ) (x : Component) (h b : Bool)
+      → IsSoFar hides inherited limit old new top q here depth (drop i names) → i < length names → x ≡ get_or names i x → child ≡ here ++ x ∷ [] → h ≡ hides child → h ≡ false → b ≡ includes limit old new depth child → b ≡ true
+      → next ≡ own_or_inherited inherited (depth_said limit child) depth → IsSoFar hides inherited limit old new top q child next (drop (i + 1) names)
+  goes_on here child depth next names i x h b far lt is child_is hidden none lets some next_is =
+      far ∙ next_step here child depth names i x lt is child_is
+      ∙ ap (λ u. not u && (includes limit old new depth child && Stays child (own_or_inherited inherited (depth_said limit child) depth) (drop (i + 1) names))) (sym hidden ∙ none)
+      ∙ ap (λ u. u && Stays child (own_or_inherited inherited (depth_said limit child) depth) (drop (i + 1) names)) (sym lets ∙ some)
+      ∙ ap (λ d. Stays child d (drop (i + 1) names)) (sym next_is)
 
 pub no_more : (names : List Component) (i : ℕ) → length names ≤ i → drop i names ≡ []
 no_more [] zero le = refl
@@ -72,16 +117,28 @@ no_more [] (suc i) le = refl
 no_more (x ∷ names) zero le = absurd (omega (le, arith))
 no_more (x ∷ names) (suc i) le = no_more names i (omega (le, arith))
 
-pub ends : (inherited : Depth → Depth) (limit : DepthLimit) (old new : Tree) (top q here : PathValue) (depth : Depth) (names : List Component) (i : ℕ) → is_at_or_under q top ≡ true
-    → IsSoFar inherited limit old new top q here depth (drop i names) → length names ≤ i → true ≡ scope_of hides_nothing inherited limit old new top q
-ends inherited limit old new top q here depth names i up far le =
-    sym (ap (λ u. u && stays_in_scope hides_nothing inherited limit old new top (top_limit limit top) (drop (length top) q)) up
-    ∙ far ∙ ap (stays_in_scope hides_nothing inherited limit old new here depth) (no_more names i le))
+pub ends : (hides : PathValue → Bool) (inherited : Depth → Depth) (limit : DepthLimit) (old new : Tree) (top q here : PathValue) (depth : Depth) (names : List Component) (i : ℕ) → is_at_or_under q top ≡ true
+    → IsSoFar hides inherited limit old new top q here depth (drop i names) → length names ≤ i → true ≡ scope_of hides inherited limit old new top q
+ends hides inherited limit old new top q here depth names i up far le =
+    sym (ap (λ u. u && stays_in_scope hides inherited limit old new top (top_limit limit top) (drop (length top) q)) up
+    ∙ far ∙ ap (stays_in_scope hides inherited limit old new here depth) (no_more names i le))
 
-pub whole_scope : (c : RepoState) (report : WholeReport) (q : PathValue) → report.ask.depth ≡ asks.Given Infinity → is_at_or_under q report.ask.target ≡ true → true ≡ drive_scope c report q
-whole_scope c report q is up =
-    sym (ap (λ d. scope_of hides_nothing (depth_inherited report.ask) (limit_of (depth_kept c report) (first_depth c report) d) (counted_entries c report) (target_entries c report) report.ask.target q) is
-    ∙ all_in_scope (depth_inherited report.ask) (inherits_all report.ask) (counted_entries c report) (target_entries c report) report.ask.target q up)
+pub to_the_end : (d : Depth) → is_to_the_end d ≡ true → d ≡ Infinity
+to_the_end Empty h = absurd (false≢true h)
+to_the_end Files h = absurd (false≢true h)
+to_the_end Immediates h = absurd (false≢true h)
+to_the_end Infinity h = refl
+
+-- what is asked for is everything
+all_given : (asked : DepthAsked) → asks_for_all asked ≡ true → asked ≡ asks.Given Infinity
+all_given asks.AsReported h = absurd (false≢true h)
+all_given (asks.Given depth) h = ap (λ d. asks.Given d) (to_the_end depth h)
+
+pub whole_scope : (c : RepoState) (report : WholeReport) (q : PathValue) → list_any is_excluding report.grafts ≡ false → asks_for_all report.ask.depth ≡ true → is_at_or_under q report.ask.target ≡ true
+    → true ≡ drive_scope c report q
+whole_scope c report q none all up =
+    sym (ap (λ d. scope_of (is_hidden c report) (depth_inherited report.ask) (limit_of (depth_kept c report) (first_depth c report) d) (counted_entries c report) (target_entries c report) report.ask.target q) (all_given report.ask.depth all)
+    ∙ all_in_scope (is_hidden c report) (depth_inherited report.ask) (none_hidden c report none) (inherits_all report.ask) (counted_entries c report) (target_entries c report) report.ask.target q up)
 
 -- ---- as deep as was reported, where everything was reported
 
@@ -105,12 +162,6 @@ deep_subtree trees from s (c ∷ rest) deep = by s.starts_empty
     by : (b : Bool) → depth_had (cond b None beneath) ≡ Infinity
     by true = refl
     by false = deep_of (reported_as s (from ++ c ∷ rest) (depth_below s.depth) None) (λ e. ap depth_below deep) (left_by s.depth rest (trees s.revision (from ++ c ∷ rest)))
-
-to_the_end : (d : Depth) → is_to_the_end d ≡ true → d ≡ Infinity
-to_the_end Empty h = absurd (false≢true h)
-to_the_end Files h = absurd (false≢true h)
-to_the_end Immediates h = absurd (false≢true h)
-to_the_end Infinity h = refl
 
 deep_graft : (trees : ℕ → Tree) (g : Graft) (rest : List Component) → is_shallow g ≡ false → depth_had (in_graft trees g rest) ≡ Infinity
 deep_graft trees g rest deep = by g.subtree deep
@@ -176,23 +227,24 @@ deep_top inherited said depth top deep is = by (said top) refl deep
     by None e d = rw e is
     by (Some x) e d = rw e d
 
-reached_as : (inherited : Depth → Depth) (said : PathValue → Option Depth) (depth : Depth)
+reached_as : (hides : PathValue → Bool) (inherited : Depth → Depth) → HidesNothing hides → (said : PathValue → Option Depth) (depth : Depth)
     → ((q : PathValue) → own_or_inherited inherited (said q) Infinity ≡ Infinity)
     → (old new : Tree) (here : PathValue) (names : List Component)
-    → stays_in_scope hides_nothing inherited (Reported said depth) old new here Infinity names ≡ true
-reached_as inherited said depth deep old new here [] = refl
-reached_as inherited said depth deep old new here (c ∷ names) =
-    ap (λ d. stays_in_scope hides_nothing inherited (Reported said depth) old new (here ++ c ∷ []) d names) (deep (here ++ c ∷ []))
-    ∙ reached_as inherited said depth deep old new (here ++ c ∷ []) names
+    → stays_in_scope hides inherited (Reported said depth) old new here Infinity names ≡ true
+reached_as hides inherited free said depth deep old new here [] = refl
+reached_as hides inherited free said depth deep old new here (c ∷ names) =
+    ap (λ h. not h && stays_in_scope hides inherited (Reported said depth) old new (here ++ c ∷ []) (own_or_inherited inherited (said (here ++ c ∷ [])) Infinity) names) (free (here ++ c ∷ []))
+    ∙ ap (λ d. stays_in_scope hides inherited (Reported said depth) old new (here ++ c ∷ []) d names) (deep (here ++ c ∷ []))
+    ∙ reached_as hides inherited free said depth deep old new (here ++ c ∷ []) names
 
-pub whole_as_reported : (c : RepoState) (report : WholeReport) (q : PathValue) → FollowsWholeReport report
+pub whole_as_reported : (c : RepoState) (report : WholeReport) (q : PathValue) → list_any is_excluding report.grafts ≡ false → FollowsWholeReport report
     → is_at_or_under q report.ask.target ≡ true → true ≡ drive_scope c report q
-whole_as_reported c report q follows up =
-    sym (ap (λ d. scope_of hides_nothing inherited (limit_of said first d) old new top q) follows.0
-    ∙ ap (λ b. b && stays_in_scope hides_nothing inherited limit old new top (top_limit limit top) (drop (length top) q)) up
-    ∙ ap (λ d. stays_in_scope hides_nothing inherited limit old new top d (drop (length top) q))
+whole_as_reported c report q none follows up =
+    sym (ap (λ d. scope_of (is_hidden c report) inherited (limit_of said first d) old new top q) follows.0
+    ∙ ap (λ b. b && stays_in_scope (is_hidden c report) inherited limit old new top (top_limit limit top) (drop (length top) q)) up
+    ∙ ap (λ d. stays_in_scope (is_hidden c report) inherited limit old new top d (drop (length top) q))
     (deep_top inherited said first top (deep_said c report deep top) (first_deep c report (to_the_end report.root.depth follows.1)))
-    ∙ reached_as inherited said first (deep_said c report deep) old new top (drop (length top) q))
+    ∙ reached_as (is_hidden c report) inherited (none_hidden c report none) said first (deep_said c report deep) old new top (drop (length top) q))
   where
     inherited : Depth → Depth
     inherited = depth_inherited report.ask

@@ -2,19 +2,19 @@
 use Rattle.drive_sides.specs.{Depths.IsWhole, Lines.KeepsLines, Pairs.{AreOnePair, IsOfAll, IsPairAt}, Plans.drive_trees, declared.pairs.EntryPair.EntryPair}
 use Rattle.std.proofs.Common.{◌≡◌, ◌<◌, arith, if◌then◌else◌, ℕ, Bool, true, false, cond, ◌&&◌, ◌||◌, not, List, [], ◌∷◌, ◌++◌, length, drop, Option, Some, None, refl, sym}
 use Rattle.std.proofs.{Common.{ap, ◌∙◌, subst, option_map}, lemmas.Bool.false≢true, lemmas.List.{append_assoc, append-nil, length-append}}
-use Rattle.std.specs.{List.list_any, Prelude.{IfSome, IsSomeAnd, IsTrue, is_some, option_and_then}}
+use Rattle.std.specs.{List.list_any, Option.option_map_or, Prelude.{IfSome, IsSomeAnd, IsTrue, is_some, option_and_then}}
 use Rattle.svnpath.specs.{PathLaws.{under_append, under_is}, Paths.{Component, is_at_or_under, PathValue}}
 use Rattle.repo_api.specs.{Histories.history_of, Readings.IsSameAt, States.{RepoState, trees_in}, Trees.{Tree, is_directory}, declared.entry.Entry.Entry}
 use Rattle.drive_rules.proofs.{Entries.under_more, Joined.or_false}
-use Rattle.drive_rules.specs.{Drives.IsInBoth, Scopes.{below, depth_below}}
+use Rattle.drive_rules.specs.{Drives.IsInBoth, Scopes.{below, depth_below}, declared.depth.Depth.TheVariants.Infinity}
 use Rattle.reporter.specs.Walks.{AreAlike, IsSamePair}
 use Rattle.traces.specs.declared.place.Place.{Place}
 use Rattle.history.specs.{Lines.{is_one_line, line_start, place_beneath, same_place}, Logs.place_at}
 use Rattle.history.proofs.AllLines.{one_line_met}
 use Rattle.drive_reports.proofs.{Aiming.{Line, all_stay, entry_beneath, keeps_line_in, line_beneath, same_kind, same_stays, stays_entry, stays_next}, Holding.{all_hold, longer_below}, Whole.in_whole}
-use Rattle.drive_reports.specs.{Aims.{aim_at, are_of_one_kind, counts_ancestry, is_of_line}, Places.{AllHoldTogether, in_place, is_grafted_over, reported_subtree}}
+use Rattle.drive_reports.specs.{Aims.{aim_at, are_of_one_kind, counts_ancestry, is_of_line}, Depths.{asks_for_all, is_to_the_end}, Places.{AllHoldTogether, in_place, is_grafted_over, reported_subtree}}
 use Rattle.drive_reports.specs.{Reported.{ReportedEntry, reported_entries, left_by, reported_as, top_entry}, Targets.{WholeReport, client_entries, client_tree, drive_scope}}
-use Rattle.drive_reports.specs.Targets.{is_apart, is_stale, is_stale_token, keeps_report, new_tree, old_tree, stale_in, target_entries}
+use Rattle.drive_reports.specs.Targets.{due_in, is_apart, is_stale, is_stale_token, is_to_be_opened, is_written_anew, keeps_report, new_tree, old_tree, target_entries}
 use Rattle.drive_reports.specs.{declared.ask.DriveAsk.DriveAsk, declared.graft.Graft.Graft, declared.graft.Subtree.Subtree, declared.reported.ReportedPlace.ReportedPlace}
 
 none_over : (grafts : List Graft) (p q : PathValue) → list_any (λ (g : Graft). below p g.path) grafts ≡ false → is_grafted_over grafts p q ≡ false
@@ -47,6 +47,36 @@ top_token trees place none = by (trees place.revision place.path)
     by : (o : Option Entry) → option_and_then (λ (h : ReportedEntry). h.token) (option_map (λ e. reported_as part place.path part.depth part.token (top_entry part.starts_empty e)) o) ≡ None
     by None = refl
     by (Some e) = none
+
+-- what is had whole is not written down anew
+settled_entry : (ask : DriveAsk) (h : ReportedEntry) → h.starts_empty ≡ false → h.depth ≡ Infinity → is_written_anew ask h ≡ false
+settled_entry ask h full deep =
+    and_none (is_directory h.entry) _
+    (ap (λ b. b || (asks_for_all ask.depth && not (is_to_the_end h.depth))) full
+    ∙ and_none (asks_for_all ask.depth) _ (ap (λ d. not (is_to_the_end d)) deep))
+
+settled_in : (trees : ℕ → Tree) (ask : DriveAsk) (place : ReportedPlace) (rest : List Component) → IsWhole place
+    → option_map_or (is_written_anew ask) (in_place trees place rest) false ≡ false
+settled_in trees ask place [] whole = by (trees place.revision place.path)
+  where
+    part : Subtree
+    part = reported_subtree place.revision place.starts_empty place.depth place.token
+
+    shown : Entry → ReportedEntry
+    shown e = reported_as part place.path part.depth part.token (top_entry part.starts_empty e)
+
+    by : (o : Option Entry) → option_map_or (is_written_anew ask) (option_map shown o) false ≡ false
+    by None = refl
+    by (Some e) = settled_entry ask (shown e) whole.0 whole.1
+settled_in trees ask place (c ∷ rest) whole = by place.starts_empty (left_by place.depth rest (trees place.revision (place.path ++ c ∷ rest)))
+  where
+    shown : Entry → ReportedEntry
+    shown = reported_as (reported_subtree place.revision place.starts_empty place.depth place.token) (place.path ++ c ∷ rest) (depth_below place.depth) None
+
+    by : (b : Bool) (o : Option Entry) → option_map_or (is_written_anew ask) (cond b None (option_map shown o)) false ≡ false
+    by true o = refl
+    by false None = refl
+    by false (Some e) = settled_entry ask (shown e) whole.0 (ap depth_below whole.1)
 
 -- what is there within a scope is there
 within_there : (b : Bool) (o : Option Entry) → is_some (cond b o None) ≡ true → is_some o ≡ true
@@ -147,17 +177,27 @@ module _ (s : RepoState) (report : WholeReport) (p : PathValue) (place : Reporte
   token_at [] = top_token (trees_in s.revisions) place token
   token_at (c ∷ rest) = no_token (trees_in s.revisions) place c rest
 
-  fresh_at : (rest : List Component) → stale_in s report (p ++ rest) ≡ false
+  quiet_at : (rest : List Component) → is_stale s report (p ++ rest) ≡ false
+  quiet_at rest =
+      and_none (keeps_report s report (p ++ rest)) _ (ap (is_stale_token s.locks (aim_at s report (p ++ rest)).from (target_entries s report (p ++ rest)))
+      (ap (option_and_then (λ (h : ReportedEntry). h.token)) (beneath rest (none_over report.grafts p (p ++ rest) none)) ∙ token_at rest))
+
+  -- nor is a directory written down anew
+  settled_at : (rest : List Component) → is_to_be_opened s report (p ++ rest) ≡ false
+  settled_at rest =
+      and_none report.ask.is_of_today _ (and_none (aim_at s report (p ++ rest)).stays _
+      (ap (λ o. option_map_or (is_written_anew report.ask) o false) (beneath rest (none_over report.grafts p (p ++ rest) none)) ∙ settled_in (trees_in s.revisions) report.ask place rest full))
+
+  fresh_at : (rest : List Component) → due_in s report (p ++ rest) ≡ false
   fresh_at rest =
-      and_none (drive_scope s report (p ++ rest)) (is_stale s report (p ++ rest))
-      (and_none (keeps_report s report (p ++ rest)) _ (ap (is_stale_token s.locks (aim_at s report (p ++ rest)).from (target_entries s report (p ++ rest)))
-      (ap (option_and_then (λ (h : ReportedEntry). h.token)) (beneath rest (none_over report.grafts p (p ++ rest) none)) ∙ token_at rest)))
+      and_none (drive_scope s report (p ++ rest)) _
+      (ap (λ b. b || is_to_be_opened s report (p ++ rest)) (quiet_at rest) ∙ settled_at rest)
 
   -- where a place is the same as what is to be there, and the client has all of it, with no token
   pub alike : IsSameAt s place.revision place.path report.ask.revision (aim_at s report p).from
       → KeepsLines s report.ask (place_at place.revision place.path) (place_at report.ask.revision (aim_at s report p).from) → AreAlike (drive_trees s report) p
   alike equal lines q under =
-      subst (λ x. (old_tree s report x ≡ new_tree s report x) × (stale_in s report x ≡ false) × (IsInBoth (old_tree s report) (new_tree s report) x → is_apart s report x ≡ false)) (sym (under_is q p under))
+      subst (λ x. (old_tree s report x ≡ new_tree s report x) × (due_in s report x ≡ false) × (IsInBoth (old_tree s report) (new_tree s report) x → is_apart s report x ≡ false)) (sym (under_is q p under))
       (same (drop (length p) q), fresh_at (drop (length p) q), kept (drop (length p) q))
     where
       same : (rest : List Component) → old_tree s report (p ++ rest) ≡ new_tree s report (p ++ rest)
@@ -226,7 +266,7 @@ pub alike_in_pair : (s : RepoState) (report : WholeReport) (p : PathValue) (pair
     → IsSameAt s pair.revision (pair.old.now ++ x ∷ []) report.ask.revision (pair.new.now ++ x ∷ [])
     → KeepsLines s report.ask (place_at pair.revision (pair.old.now ++ x ∷ [])) (place_at report.ask.revision (pair.new.now ++ x ∷ [])) → AreAlike (drive_trees s report) (p ++ x ∷ [])
 alike_in_pair s report p pair x together up is equal lines q under =
-    subst (λ y. (old_tree s report y ≡ new_tree s report y) × (stale_in s report y ≡ false) × (IsInBoth (old_tree s report) (new_tree s report) y → is_apart s report y ≡ false)) (sym there)
+    subst (λ y. (old_tree s report y ≡ new_tree s report y) × (due_in s report y ≡ false) × (IsInBoth (old_tree s report) (new_tree s report) y → is_apart s report y ≡ false)) (sym there)
     (same r, is.fresh (x ∷ r), kept r)
   where
     r : PathValue

@@ -1,8 +1,8 @@
 -- Depths of directories, in reports and in drives.
-use Rattle.std.specs.{Prelude.{◌≡◌, ◌⊎◌, true, false, List, [], ◌∷◌, ◌++◌, length, drop, is_some}, List.list_any}
+use Rattle.std.specs.{Prelude.{◌≡◌, ◌⊎◌, true, false, List, [], ◌∷◌, ◌++◌, length, drop, is_some, Some}, List.list_any}
 use Rattle.svnpath.specs.Paths.{Component, PathValue}
-use Rattle.repo_api.specs.States.{RepoState}
-use Rattle.drive_reports.specs.{Depths.{is_shallow, is_to_the_end}, Targets.{WholeReport, client_entries, depth_inherited, drive_limit, drive_scope}}
+use Rattle.repo_api.specs.{Kinds.kind_of, States.RepoState}
+use Rattle.drive_reports.specs.{Depths.{is_shallow, is_to_the_end}, Reported.ReportedEntry, Targets.{WholeReport, client_entries, depth_inherited, drive_limit, drive_scope}}
 use Rattle.drive_reports.specs.{declared.ask.DepthAsked.DepthAsked, declared.ask.DepthAsked.TheVariants.{AsReported, Given}}
 use Rattle.drive_reports.specs.declared.reported.ReportedPlace.{ReportedPlace}
 use Rattle.drive_rules.specs.{Scopes.{depth_said, DepthLimit, own_or_inherited, top_limit}, declared.depth.Depth.Depth}
@@ -14,6 +14,13 @@ abbrev pub FollowsWholeReport : WholeReport → Type 0
 FollowsWholeReport report =
     (report.ask.depth ≡ AsReported) × (is_to_the_end report.root.depth ≡ true)
     × (list_any is_shallow report.grafts ≡ false)
+
+-- an entry that is had comes from a place: it starts empty or not, and is of the kind and as deep, as
+-- the place
+pub record IsOfPlace (place : ReportedPlace) (h : ReportedEntry) : Type 0 where
+  pub kind : place.kind ≡ kind_of (Some h.entry)
+  pub starts_empty : h.starts_empty ≡ place.starts_empty
+  pub depth : h.depth ≡ place.depth
 
 -- all that stands at a place and beneath it is had
 abbrev pub IsWhole : ReportedPlace → Type 0

@@ -4,7 +4,7 @@ use Rattle.svnpath.specs.Paths.{Component, is_at_or_under, PathValue}
 use Rattle.repo_api.specs.{Readings.IsSameAt, States.{RepoState, trees_in}}
 use Rattle.history.specs.Logs.{place_at}
 use Rattle.drive_rules.specs.Scopes.{below}
-use Rattle.drive_reports.specs.{Aims.aim_at, Reported.ReportedEntry, Targets.{WholeReport, client_tree, drive_scope, new_tree, old_tree, stale_in}}
+use Rattle.drive_reports.specs.{Aims.aim_at, Reported.ReportedEntry, Targets.{WholeReport, client_tree, drive_scope, due_in, new_tree, old_tree}}
 use Rattle.drive_reports.specs.{declared.ask.DriveAsk.DriveAsk, declared.graft.Graft.Graft}
 use Rattle.drive_sides.specs.{Lines.KeepsLines, declared.pairs.EntryPair.EntryPair}
 
@@ -18,8 +18,8 @@ abbrev pub IsOfPair : EntryPair → List Component → ReportedEntry → Type 0
 IsOfPair pair rest h = (h.revision ≡ pair.revision) × (h.from ≡ pair.old.now ++ rest)
 
 -- The drive is of everything, and what is had at a path stays; no graft is beneath it; at the path
--- and under it the two trees are what two paths of revisions have at and under them, and no token
--- is stale.
+-- and under it the two trees are what two paths of revisions have at and under them, and nothing is
+-- due.
 pub record IsPairAt (c : RepoState) (report : WholeReport) (p : PathValue) (pair : EntryPair)
     : Type 0 where
   pub all : IsOfAll c report
@@ -32,7 +32,7 @@ pub record IsPairAt (c : RepoState) (report : WholeReport) (p : PathValue) (pair
       → old_tree c report (p ++ rest) ≡ trees_in c.revisions pair.revision (pair.old.now ++ rest)
   pub new : (rest : List Component)
       → new_tree c report (p ++ rest) ≡ trees_in c.revisions report.ask.revision (pair.new.now ++ rest)
-  pub fresh : (rest : List Component) → stale_in c report (p ++ rest) ≡ false
+  pub fresh : (rest : List Component) → due_in c report (p ++ rest) ≡ false
 
 -- on either side, what is at the places of two pairs and beneath them keeps its lines
 pub record HaveSameLines (c : RepoState) (ask : DriveAsk) (one two : EntryPair) : Type 0 where

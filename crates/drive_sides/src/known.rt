@@ -49,6 +49,7 @@ fn place_copied(place: &ReportedPlace) -> Result<ReportedPlace, AllocError>
     Ok(ReportedPlace {
         revision: place.revision,
         path,
+        kind: place.kind,
         starts_empty: place.starts_empty,
         depth: place.depth,
         token,

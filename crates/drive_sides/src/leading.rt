@@ -76,7 +76,7 @@ impl<'a, R: Repository> TwoTrees<'a, R> {
     {
         match had {
             None => NodeKind::Absent,
-            Some(place) => self.view.kind(place.revision, &place.path),
+            Some(place) => place.kind,
         }
     }
 

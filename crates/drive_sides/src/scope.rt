@@ -2,8 +2,8 @@
 ghost use Rattle.std.specs.Prelude.{◌≡◌, true, Option, IfOk};
 ghost use Rattle.svnpath.specs.Paths.{is_at_or_under};
 ghost use Rattle.repo_api.specs.{Kinds.kind_of, declared.entry.Entry.Entry};
-ghost use Rattle.drive_rules.specs.Scopes.{depth_added, depth_below, depth_said, includes, includes_child, keeps_reported, own_or_inherited, top_limit};
-ghost use Rattle.drive_reports.specs.Targets.{client_tree, counted_entries, depth_inherited, depth_kept, drive_limit, drive_scope, first_depth, reported_depth, target_entries};
+ghost use Rattle.drive_rules.specs.Scopes.{depth_added, depth_said, includes, includes_child, keeps_reported, own_or_inherited, top_limit};
+ghost use Rattle.drive_reports.specs.{Depths.asks_for_all, Targets.{client_tree, counted_entries, depth_inherited, depth_kept, drive_limit, drive_scope, first_depth, is_hidden, reported_depth, target_entries}};
 ghost use Rattle.reporter.specs.{Knowing.IsKnown, Walks.IsChild};
 ghost use Rattle.drive_sides.specs.{Known.IsKnownOf, OnTrees.on_trees, Pairs.IsOfAll, Plans.whole, Depths.{depth_at, FollowsWholeReport, Reaches}};
 
@@ -11,7 +11,7 @@ use crate::known::DrivePlace;
 use crate::leading::kind_if;
 use crate::reach::{Reach, reach_of};
 use crate::two_trees::TwoTrees;
-use drive_reports::{DepthAsked, DriveAsk, is_to_the_end};
+use drive_reports::{DepthAsked, DriveAsk, depth_below, is_excluded_at, is_to_the_end};
 use drive_rules::Depth;
 use repo_api::{NodeKind, Repository};
 use std::alloc::{AllocError, Global};
@@ -41,18 +41,6 @@ fn depth_added(above: Depth) -> Depth
     }
 }
 
-/// Gives what a depth leaves a directory of which none was said.
-fn depth_below(above: Depth) -> Depth
-    ensures { result ≡ depth_below above }
-{
-    match above {
-        Depth::Infinity => Depth::Infinity,
-        Depth::Immediates => Depth::Empty,
-        Depth::Files => Depth::Empty,
-        Depth::Empty => Depth::Empty,
-    }
-}
-
 /// Gives what a directory inherits of its parent's depth.
 fn depth_inherited(ask: &DriveAsk, above: Depth) -> Depth
     ensures { result ≡ depth_inherited ask.now above }
@@ -75,17 +63,12 @@ fn own_or_inherited(ask: &DriveAsk, said: Option<Depth>, above: Depth) -> Depth
 }
 
 /// Says whether everything is asked for.
-fn asks_for_all(depth: DepthAsked) -> bool
-    ensures { result ≡ true → depth ≡ DepthAsked.Given Depth.Infinity }
+pub(crate) fn asks_for_all(depth: DepthAsked) -> bool
+    ensures { result ≡ asks_for_all depth }
 {
     match depth {
         DepthAsked::AsReported => false,
-        DepthAsked::Given(given) => match given {
-            Depth::Infinity => true,
-            Depth::Immediates => false,
-            Depth::Files => false,
-            Depth::Empty => false,
-        },
+        DepthAsked::Given(given) => is_to_the_end(given),
     }
 }
 
@@ -108,7 +91,7 @@ impl<'a, R: Repository> TwoTrees<'a, R> {
         match &place.known.had {
             None => None,
             Some(had) => {
-                if self.view.kind(had.revision, &had.path).is_directory() {
+                if had.kind.is_directory() {
                     Some(had.depth)
                 } else {
                     None
@@ -203,6 +186,27 @@ impl<'a, R: Repository> TwoTrees<'a, R> {
         includes_child(depth, old, self.kind_to_be(child)) || self.keeps_reported(old)
     }
 
+    /// Says whether the client excludes a path in a directory, and something is to exist there.
+    fn is_hidden(
+        &self,
+        alloc: Global,
+        place: &DrivePlace,
+        child: &DrivePlace,
+    ) -> Result<bool, AllocError>
+        requires place { IsKnown (on_trees self.now IsKnownOf) place.now }
+        requires child { IsKnown (on_trees self.now IsKnownOf) child.now }
+        requires inside { IsChild place.now.path child.now.path }
+        ensures { IfOk result (λ hidden. hidden ≡ on_trees self.now is_hidden child.now.path) }
+    {
+        if !self.holder_at(place).counts {
+            return Ok(false);
+        }
+        if !child.known.kind.is_present() {
+            return Ok(false);
+        }
+        is_excluded_at(alloc, &self.report.grafts, &child.path)
+    }
+
     /// Says whether the names from the target down to a path stay in scope.
     fn stays_in_scope(&self, alloc: Global, path: &Path) -> Result<bool, AllocError>
         requires { is_at_or_under path.now self.now.report.now.ask.target ≡ true }
@@ -214,6 +218,9 @@ impl<'a, R: Repository> TwoTrees<'a, R> {
         for name in &path.components()[target.len()..] {
             let child = here.path.child(alloc, name.clone()?)?;
             let next = self.child_place(alloc, &here, child)?;
+            if self.is_hidden(alloc, &here, &next)? {
+                return Ok(false);
+            }
             if !self.includes(depth, &here, &next) {
                 return Ok(false);
             }
@@ -236,10 +243,10 @@ impl<'a, R: Repository> TwoTrees<'a, R> {
     pub(crate) fn is_of_all(&self) -> bool
         ensures { result ≡ true → on_trees self.now IsOfAll }
     {
-        if asks_for_all(self.report.ask.depth) {
-            return true;
+        if self.report.grafts.has_excluded() {
+            return false;
         }
-        self.follows_whole_report()
+        asks_for_all(self.report.ask.depth) || self.follows_whole_report()
     }
 
     /// Says whether a drive is of a path.
@@ -250,10 +257,7 @@ impl<'a, R: Repository> TwoTrees<'a, R> {
         if !path.is_at_or_under(ask.target.as_path()) {
             return Ok(false);
         }
-        if asks_for_all(ask.depth) {
-            return Ok(true);
-        }
-        if self.follows_whole_report() {
+        if self.is_of_all() {
             return Ok(true);
         }
         self.stays_in_scope(alloc, path)

@@ -203,7 +203,7 @@ impl<'a, R: Repository> Sides for TwoTrees<'a, R> {
         if !self.is_in_scope(alloc, &place.path)? {
             return Ok(false);
         }
-        Ok(self.is_stale_in(alloc, place)? || self.differs(alloc, place)?)
+        Ok(self.is_due_unchanged(place) || self.differs(alloc, place)?)
     }
 
     fn copied(&self, place: &DrivePlace) -> Result<DrivePlace, AllocError> {

@@ -1,16 +1,26 @@
 //! What the entries of a drive are told, and what else is to be known of them.
 ghost use Rattle.std.specs.Prelude.{◌≡◌, true, IfOk, option_and_then, option_map};
 ghost use Rattle.reporter.specs.Knowing.{IsKnown};
-ghost use Rattle.drive_reports.specs.Targets.{client_tree, drive_scope, is_stale, keeps_report, new_tree, stale_in};
+ghost use Rattle.drive_reports.specs.{Reported.ReportedEntry, Targets.{client_tree, drive_scope, due_in, is_stale, is_to_be_opened, is_written_anew, keeps_report, new_tree, stale_in}};
 ghost use Rattle.drive_news.specs.{News.{news_at, news_of}, Places.entry_had};
-ghost use Rattle.drive_sides.specs.{Known.IsKnownOf, OnTrees.on_trees};
+ghost use Rattle.drive_sides.specs.{Depths.IsOfPlace, Known.IsKnownOf, OnTrees.on_trees};
 
 use crate::known::DrivePlace;
+use crate::scope::asks_for_all;
 use crate::two_trees::TwoTrees;
 use crate::views::had_at;
 use drive_news::{Had, News, Place, Sight, news_of};
+use drive_reports::{DriveAsk, ReportedPlace, is_to_the_end};
 use repo_api::Repository;
 use std::alloc::{AllocError, Global};
+
+/// Says whether a client writes a directory down anew when it is opened, by what it has there.
+fn is_written_anew(ask: &DriveAsk, had: &ReportedPlace) -> bool
+    ensures { (h : ReportedEntry) → IsOfPlace had.now h → result ≡ is_written_anew ask.now h }
+{
+    had.kind.is_directory()
+        && (had.starts_empty || (asks_for_all(ask.depth) && !is_to_the_end(had.depth)))
+}
 
 impl<'a, R: Repository> TwoTrees<'a, R> {
     /// Says whether what is reported of a path holds of what is to be there: of a client of today only where it stays.
@@ -44,15 +54,28 @@ impl<'a, R: Repository> TwoTrees<'a, R> {
         }
     }
 
-    /// Says whether the client's token of a path of the drive is stale.
-    pub(crate) fn is_stale_in(&self, alloc: Global, place: &DrivePlace) -> Result<bool, AllocError>
+    /// Says whether a client of today is to open a directory that stays, so that it writes it down anew.
+    fn is_to_be_opened(&self, place: &DrivePlace) -> bool
         requires { IsKnown (on_trees self.now IsKnownOf) place.now }
-        ensures { IfOk result (λ answer. answer ≡ on_trees self.now stale_in place.now.path) }
+        ensures { result ≡ on_trees self.now is_to_be_opened place.now.path }
     {
-        if !self.is_in_scope(alloc, &place.path)? {
-            return Ok(false);
+        let ask = &self.report.ask;
+        if !ask.is_of_today || !place.known.stays {
+            return false;
         }
-        Ok(self.is_stale(place))
+        match &place.known.had {
+            None => false,
+            Some(had) => is_written_anew(ask, had),
+        }
+    }
+
+    /// Says whether a path of the drive is due: the client's token of it is stale, or it is to be opened.
+    pub(crate) fn is_due_unchanged(&self, place: &DrivePlace) -> bool
+        requires known { IsKnown (on_trees self.now IsKnownOf) place.now }
+        requires scope { on_trees self.now drive_scope place.now.path ≡ true }
+        ensures { result ≡ on_trees self.now due_in place.now.path }
+    {
+        self.is_stale(place) || self.is_to_be_opened(place)
     }
 
     /// Gives the revision that the client reports of what it has at a path.

@@ -5,7 +5,7 @@ use Rattle.repo_api.specs.{States.RepoState, Trees.{text_of, Tree}}
 use Rattle.wire_edits.specs.{declared.editing.EditorCommand.EditorCommand, declared.editing.EditorCommand.TheVariants.{TargetRevision, OpenRoot, CloseEdit}}
 use Rattle.drive_rules.specs.{Drives.IsRight, Steps.{as_it_is, but_text, has_step, is_adding, is_entry_property, is_opening, Node, Step}}
 use Rattle.drive_rules.specs.{Steps.EntryKind.DirectoryKind, Steps.Step.OpenAt}
-use Rattle.drive_reports.specs.{Targets.{WholeReport, old_tree, new_tree, drive_scope, is_apart, stale_in}, declared.ask.DriveAsk.DriveAsk}
+use Rattle.drive_reports.specs.{Targets.{WholeReport, old_tree, new_tree, drive_scope, due_in, is_apart, stale_in}, declared.ask.DriveAsk.DriveAsk}
 use Rattle.drive_reports.specs.{declared.ask.Purpose.Purpose, declared.ask.Purpose.TheVariants.{Update, Switch, Status}}
 use Rattle.drive_wire.specs.{EntryProperties.{entry_property, told}, Saying.{OpenEntry, Says}, Saying.TextState.Unchanged}
 
@@ -49,11 +49,11 @@ TellsEach c report steps =
     → IsSomeAnd (new_tree c report q)
     (λ e. told q name steps ≡ entry_property c (stale_in c report q) e name)
 
--- the steps are a right drive from what the client has to what it is to have, where stale tokens are
--- due
+-- the steps are a right drive from what the client has to what it is to have, where each entry is due
+-- of which a token is stale, or that the client is to open
 abbrev pub LeadsToTarget : RepoState → WholeReport → List Step → Type 0
 LeadsToTarget c report steps =
-    IsRight (seen_by report.ask.purpose) (drive_scope c report) (stale_in c report)
+    IsRight (seen_by report.ask.purpose) (drive_scope c report) (due_in c report)
     (is_apart c report) (old_tree c report) (new_tree c report) steps
 
 -- the commands around the commands of a drive: of its revision, and from the root, which is of the

@@ -51,12 +51,7 @@ pub(crate) fn caller_of<'a, R>(
         session: number,
         asked: 0,
     };
-    Ok(Caller {
-        number,
-        input,
-        output,
-        client: Some(client),
-    })
+    Ok(Caller::new(number, input, output, Some(client)))
 }
 
 /// Says whether a call has ended because its time was over.

@@ -172,16 +172,13 @@ fn caller_of<'a, R: Abort + Wait>(
         say.send(rt, piece).expect(rt, "a reader");
     }
     drop(say);
-    Caller {
-        number,
-        input: Sent { rt, pieces: hear },
-        output: Told {
-            rt,
-            client: call.client,
-            room: call.room,
-        },
-        client: None,
-    }
+    let input = Sent { rt, pieces: hear };
+    let output = Told {
+        rt,
+        client: call.client,
+        room: call.room,
+    };
+    Caller::new(number, input, output, None)
 }
 
 /// Sends callers to the workers, numbered from 1 on, and then no more.

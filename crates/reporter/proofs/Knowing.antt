@@ -53,13 +53,6 @@ module _ {K : Type 0} (knows : K → PathValue → Type 0) where
   pub none_known : (xs : List (KnownPath K)) → xs ≡ [] → AreKnown knows xs
   none_known xs none = subst (AreKnown knows) (sym none) (All-nil (IsKnown knows))
 
-  -- the first, and the others
-  pub first_known : (xs rest : List (KnownPath K)) (x : KnownPath K) → xs ≡ x ∷ rest → AreKnown knows xs → IsKnown knows x
-  first_known xs rest x is known = All-head (IsKnown knows) x rest (subst (AreKnown knows) is known)
-
-  pub rest_known : (xs rest : List (KnownPath K)) (x : KnownPath K) → xs ≡ x ∷ rest → AreKnown knows xs → AreKnown knows rest
-  rest_known xs rest x is known = All-tail (IsKnown knows) x rest (subst (AreKnown knows) is known)
-
   -- one more
   pub push_known : (old new : List (KnownPath K)) (x : KnownPath K) → new ≡ old ++ x ∷ [] → AreKnown knows old → IsKnown knows x → AreKnown knows new
   push_known old new x is known more = subst (AreKnown knows) (sym is) (All-push (IsKnown knows) old x known more)

@@ -93,9 +93,6 @@ pub entry_left : (t : WalkedTrees) (ds : List Visit) (anew : Bool) (x : PathValu
 entry_left t ds anew x es rest vs more empty pops plan (later, left, plans) =
     (vs ++ later, ap (λ us. vs ++ us) (left ∙ ap (λ us. us ++ later) empty) ∙ sym (ap (λ us. us ++ (vs ++ later)) empty), subst (λ ys. ArePlansOf t anew ys (vs ++ later)) (sym pops) (vs, later, refl, plan, plans))
 
-pub none_left : (t : WalkedTrees) (ds : List Visit) (anew : Bool) (es : List PathValue) → ds ≡ [] → es ≡ [] → LeftOf t ds anew es []
-none_left t ds anew es empty none = ([], sym (ap (λ us. us ++ []) empty), subst (λ ys. ArePlansOf t anew ys []) (sym none) refl)
-
 -- ---- in the directories that are open
 
 pub single_left : {K : Type 0} (t : WalkedTrees) (old new : Unvisited K) (ds : List (Unvisited K)) (v : KnownVisit K) (vs : List Visit) → IsNextFound t old new (Single v) → IsLeft t (new ∷ ds) vs → IsLeft t (old ∷ ds) (visit_of v ∷ vs)

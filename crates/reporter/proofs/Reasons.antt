@@ -6,9 +6,9 @@ use Rattle.std.specs.Prelude.{IsSome, is_some}
 use Rattle.svnpath.specs.{PathLaws.{under_append, under_is, under_itself}, Paths.{is_at_or_under, PathValue}}
 use Rattle.repo_api.specs.{Trees.Tree, declared.entry.Entry.Entry}
 use Rattle.drive_rules.proofs.{Entries.{no_length, under_more}, Joined.or_cases}
-use Rattle.reporter.specs.{declared.known_path.KnownPath.KnownPath, Visits.Visit.Delete, Knowing.paths_of, Left.{IsPlanBelow, IsSilent, ArePlansOf}}
-use Rattle.reporter.specs.Walks.{WalkedTrees, HasReasonAt, IsChild, IsDue, IsListed, AreAlike, goes, goes_at, going}
-use Rattle.reporter.proofs.{Planning.{goes_why, one_side, same_length}, Plans.{below_directory, plans_append, absent, alike as all_alike}}
+use Rattle.reporter.specs.{declared.known_path.KnownPath.KnownPath, Knowing.paths_of, Left.{IsSilent, ArePlansOf}}
+use Rattle.reporter.specs.Walks.{WalkedTrees, HasReasonAt, IsChild, IsDue, AreAlike, goes, goes_at, going}
+use Rattle.reporter.proofs.{Planning.{goes_why, one_side, same_length}, Plans.{plans_append, absent, alike as all_alike}}
 
 -- what is due has a reason
 pub due_reason : (t : WalkedTrees) (p : PathValue) → IsDue t p → HasReasonAt t p
@@ -60,10 +60,6 @@ pub one_more : {K : Type 0} (t : WalkedTrees) (xs : List (KnownPath K)) (i : ℕ
 one_more t xs i x lt is silent says =
     subst (SaysNothing t) (sym (map_more (λ y. y.path) xs i x lt ∙ ap (λ y. paths_of (take i xs) ++ y.path ∷ []) (sym is)))
     (plans_append t false (paths_of (take i xs)) (x.path ∷ []) [] [] says.0 ([], [], refl, silent.1, refl), none_going_more t.apart t.old t.new (paths_of (take i xs)) x.path says.1 silent.0)
-
-pub nothing_said_below : (t : WalkedTrees) (p : PathValue) (xs : List PathValue) → IsListed t p xs → SaysNothing t xs → IsPlanBelow t false p []
-nothing_said_below t p xs listed says =
-    subst (IsPlanBelow t false p) (ap (λ ds. map Delete ds ++ []) says.1) (below_directory t false p xs [] listed says.0)
 
 -- ---- one or the other
 

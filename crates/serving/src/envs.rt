@@ -26,10 +26,10 @@ impl<'a, C: Clock + RandomSource> SystemEnvs<'a, C> {
 }
 
 impl<'a, C: Clock> EnvSource for SystemEnvs<'a, C> {
-    ghost use Rattle.std.specs.Prelude.{⊤};
+    ghost use Rattle.serving.specs.Handing.{HandsIn};
 
-    // nothing is known of what a clock shows, nor of what random words come
-    ghost gives = { λ _ _ _. ⊤ };
+    ghost gives = { λ old env new. HandsIn (⟦<StdRng as Rng>⟧.stream old.words) env
+        (⟦<StdRng as Rng>⟧.stream new.words) };
 
     fn next_env(&mut self) -> Env {
         let mut token = [0; 16];

@@ -1,7 +1,8 @@
 //! What sessions are served by.
 ghost use Rattle.std.specs.Prelude.{◌≡◌, ℕ, List, IfOk, Some, string_bytes};
 ghost use Rattle.cram.specs.UsersFile.{AreRight, file_lines, logins_of};
-ghost use Rattle.serving.specs.Asked.{CountsAreAsked, OptionsAreAsked};
+ghost use Rattle.serving.specs.Asked.{CountsAreAsked, OptionsAreAsked, PlaceIsAsked};
+ghost use Rattle.std.specs.Net.Grammar.{IsSocketV4Text};
 
 use crate::fault::ServingFault;
 use crate::reason::Reason;
@@ -39,7 +40,9 @@ pub struct Server<'s, R> {
 }
 
 /// Reads where to listen: a dotted IPv4 address and a port.
-fn address_of(service: &Service) -> Result<SocketAddrV4, ServingFault> {
+fn address_of(service: &Service) -> Result<SocketAddrV4, ServingFault>
+    ensures { IfOk result (IsSocketV4Text (string_bytes service.now.listen)) }
+{
     match service.listen.as_str().parse::<SocketAddrV4>() {
         Ok(address) => Ok(address),
         Err(_) => Err(ServingFault::Address),
@@ -102,6 +105,7 @@ pub fn read_settings<R: Runtime>(
 ) -> Result<Settings, ServingFault>
     ensures options { IfOk result (OptionsAreAsked service.now) }
     ensures counts { IfOk result (CountsAreAsked service.now) }
+    ensures place { IfOk result (PlaceIsAsked service.now) }
 {
     if !is_repository_name(service.name.as_str()) {
         return Err(ServingFault::Name);

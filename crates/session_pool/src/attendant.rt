@@ -8,13 +8,36 @@ use std::alloc::Global;
 use std::io::{Read, Write};
 
 /// A connection that was accepted: the number of its session, its two ends, and its client, where that is to be asked
-/// whether it is still there.
+/// whether it is still there. Only who serves it has its ends.
 #[derive(Drop)]
 pub struct Caller<I, O, P> {
-    pub number: u64,
-    pub input: I,
-    pub output: O,
-    pub client: Option<P>,
+    number: u64,
+    input: I,
+    output: O,
+    client: Option<P>,
+}
+
+impl<I, O, P> Caller<I, O, P> {
+    ghost use Rattle.std.specs.Prelude.{◌≡◌};
+
+    /// Makes the caller of the session of this number, by its two ends and its client.
+    pub fn new(number: u64, input: I, output: O, client: Option<P>) -> Self
+        ensures { result ≡ record { number = number; input = input; output = output; client = client } }
+    {
+        Caller {
+            number,
+            input,
+            output,
+            client,
+        }
+    }
+
+    /// Gives the number of its session.
+    pub(crate) fn number(&self) -> u64
+        ensures { result ≡ self.now.number }
+    {
+        self.number
+    }
 }
 
 /// What serves callers at a repository, one after another. Whoever has it can do nothing else there.

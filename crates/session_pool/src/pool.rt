@@ -108,7 +108,7 @@ impl<'p, G: Gate, W: Watch> SessionPool<'p, G, W> {
             let Ok(mut caller) = callers.recv(rt) else {
                 return;
             };
-            let number = caller.number;
+            let number = caller.number();
             let done = attendant.serve(&mut caller);
             // a connection that fails is closed
             drop(caller);

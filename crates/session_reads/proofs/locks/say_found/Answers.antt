@@ -1,4 +1,4 @@
-use Rattle.std.proofs.Common.{[], ◌∷◌, ◌∙◌, List, ap, map, subst}
+use Rattle.std.proofs.Common.{[], ◌∷◌, ◌∙◌, ap, map, subst}
 use Rattle.std.specs.Map.Iter.{deref_pair}
 use Rattle.repo_api.specs.Locking.{LockList}
 use Rattle.wire_replies.specs.Sinks.{Says}

@@ -1,7 +1,7 @@
 use Rattle.std.proofs.{Common.{arith, Bool, ◌≡◌, ◌-◌, ◌++◌, ◌∷◌, [], ◌||◌, length, List, take, ap, sym, subst, ◌∙◌}, Math.Seq.take-append_seam, lemmas.List.length_push}
 use Rattle.std.proofs.{lemmas.List.Elements.{All-nil, All-cons, All-append}, lemmas.List.Folds.list_any-append}
 use Rattle.std.specs.{Prelude.vec_len, List.list_any}
-use Rattle.drive_reports.specs.{Depths.is_shallow, Finding.{AreFound, IsNoted}, Links.is_linked, Named.{AreNamed, IsNamed}, declared.graft.Graft.Graft}
+use Rattle.drive_reports.specs.{Depths.is_shallow, Finding.{AreFound, IsNoted}, Links.{is_excluding, is_linked}, Named.{AreNamed, IsNamed}, declared.graft.Graft.Graft}
 use Rattle.drive_reports.proofs.Finding.{found_more, or_nothing}
 use Rattle.drive_reports.proofs.grafts.Grafts.push.Goals as goal
 
@@ -15,7 +15,8 @@ invariant_of-self c =
     let index = c.self.inside.index in
     subst
     (λ gs. AreNamed gs × AreFound gs index.newest.entries index.older.items
-    × (c.self.inside.has_shallow ≡ list_any is_shallow gs) × (c.self.inside.has_link ≡ list_any is_linked gs))
+    × (c.self.inside.has_shallow ≡ list_any is_shallow gs) × (c.self.inside.has_link ≡ list_any is_linked gs)
+    × (c.self.inside.has_excluded ≡ list_any is_excluding gs))
     (sym c.in_err-push.ensures.items) c.self.invariant
 
 pub invariant_of-self-in-Ok : goal.invariant_of-self-in-Ok
@@ -33,10 +34,12 @@ invariant_of-self-in-Ok c =
     found_more gs graft old.newest.entries new.newest.entries old.older.items new.older.items c.self.invariant.1 noted.newest noted.older in
     let shallow = any_more is_shallow gs graft c.self.inside.has_shallow c.has_shallow_too-has_shallow.result c.self.invariant.2 c.has_shallow_too-has_shallow.ensures in
     let linked = any_more is_linked gs graft c.self.inside.has_link c.has_link_too-has_link.result c.self.invariant.3 c.has_link_too-has_link.ensures in
+    let excluded = any_more is_excluding gs graft c.self.inside.has_excluded c.has_excluded_too-has_excluded.result c.self.invariant.4 c.has_excluded_too-has_excluded.ensures in
     subst
     (λ gs. AreNamed gs × AreFound gs new.newest.entries new.older.items
-    × (c.has_shallow_too-has_shallow.result ≡ list_any is_shallow gs) × (c.has_link_too-has_link.result ≡ list_any is_linked gs))
-    (sym c.in_ok-push.ensures.items) (named, found, shallow, linked)
+    × (c.has_shallow_too-has_shallow.result ≡ list_any is_shallow gs) × (c.has_link_too-has_link.result ≡ list_any is_linked gs)
+    × (c.has_excluded_too-has_excluded.result ≡ list_any is_excluding gs))
+    (sym c.in_ok-push.ensures.items) (named, found, shallow, linked, excluded)
 
 pub invariant_of-self-in-Err : goal.invariant_of-self-in-Err
 invariant_of-self-in-Err c =
@@ -56,5 +59,6 @@ invariant_of-self-in-Err c =
     (subst (λ os. AreFound gs old.newest.entries os) (sym c.in-Err.ensures.err.1) c.self.invariant.1) in
     subst
     (λ gs. AreNamed gs × AreFound gs new.newest.entries new.older.items
-    × (c.self.inside.has_shallow ≡ list_any is_shallow gs) × (c.self.inside.has_link ≡ list_any is_linked gs))
-    (sym back) (c.self.invariant.0, found, c.self.invariant.2, c.self.invariant.3)
+    × (c.self.inside.has_shallow ≡ list_any is_shallow gs) × (c.self.inside.has_link ≡ list_any is_linked gs)
+    × (c.self.inside.has_excluded ≡ list_any is_excluding gs))
+    (sym back) (c.self.invariant.0, found, c.self.invariant.2, c.self.invariant.3, c.self.invariant.4)
