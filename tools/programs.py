@@ -1,11 +1,15 @@
 """Which program is run by tools, tests and benchmarks, and what else they need."""
 
+import re
 import shutil
 import subprocess
 import sys
 from pathlib import Path
 
 ROOT = Path(__file__).resolve().parent.parent
+
+# what the program says of memory that was refused
+OUT_OF_MEMORY = re.compile(rb"svnserved: (H2|O4|X7)\n  out of memory\n(  [^\n]+\n)?")
 
 
 def program_path(path=None, name="svnserved"):

@@ -80,10 +80,6 @@ abbrev pub includes : DepthLimit → Tree → Tree → Depth → PathValue → B
 includes limit old new depth child =
     includes_child depth (old child) (new child) || keeps_reported limit (old child)
 
--- nothing is hidden
-abbrev pub hides_nothing : PathValue → Bool
-hides_nothing q = false
-
 -- Whether the names, gone down one by one from a directory of this depth, stay in scope: what is
 -- hidden is not in it, nor what is under it. A directory of which no depth was said has what it
 -- inherits of its parent's.

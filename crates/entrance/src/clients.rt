@@ -1,4 +1,5 @@
 //! A client's connection: what is read of it, and what is written to it.
+ghost use Rattle.std.specs.Io.{ReadsAtMost};
 
 use crate::clock::millis_now;
 use crate::registry::Registry;
@@ -22,6 +23,10 @@ const WRITE_TURNS: u64 = 60;
 
 /// How long a session that reads nothing for a while sleeps before it looks whether its client is there, in milliseconds.
 const REST_TURN: u64 = 100;
+
+/// How many bytes are read at once where a command is awaited. As it reads and writes a session sees that its client has gone,
+/// so it answers only a few commands between.
+const COMMANDS: usize = 2_048;
 
 /// A client that has come, on its way to a worker.
 pub type Client<'a, R> = Caller<ClientInput<'a, R>, ClientOutput, Connection>;
@@ -51,7 +56,7 @@ pub(crate) fn caller_of<'a, R>(
         session: number,
         asked: 0,
     };
-    Ok(Caller::new(number, input, output, Some(client)))
+    Ok(Caller::new(number, input, output, client))
 }
 
 /// Says whether a call has ended because its time was over.
@@ -60,6 +65,17 @@ fn is_of_time(done: &io::Result<usize>) -> bool {
         Ok(_) => false,
         Err(error) => error.kind() == ErrorKind::WouldBlock,
     }
+}
+
+/// Reads once, and no more than so many bytes.
+fn read_few(stream: &TcpStream, buf: &mut [u8], most: usize) -> io::Result<usize>
+    ensures { ReadsAtMost result buf.new }
+{
+    let mut stream = stream;
+    if buf.len() <= most {
+        return stream.read(buf);
+    }
+    stream.read(&mut buf[..most])
 }
 
 /// What a client sends. Where its session is to end, because the client sends nothing, it ends.
@@ -108,6 +124,18 @@ impl<'a, R: Clock + Wait> ClientInput<'a, R> {
         self.asked = now;
         self.registry.is_to_end(self.session)
     }
+
+    /// Reads once: of commands only a few.
+    fn read_once(&self, buf: &mut [u8]) -> io::Result<usize>
+        ensures { ReadsAtMost result buf.new }
+    {
+        let most = if self.registry.awaits_command(self.session) {
+            COMMANDS
+        } else {
+            buf.len()
+        };
+        read_few(self.stream.as_ref(), buf, most)
+    }
 }
 
 impl<'a, R: Clock + Wait> Read for ClientInput<'a, R> {
@@ -119,8 +147,7 @@ impl<'a, R: Clock + Wait> Read for ClientInput<'a, R> {
             if self.is_to_end() {
                 return Ok(0);
             }
-            let mut stream = self.stream.as_ref();
-            let done = stream.read(buf);
+            let done = self.read_once(buf);
             if !is_of_time(&done) {
                 return done;
             }

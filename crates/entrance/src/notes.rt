@@ -148,6 +148,12 @@ impl Notes {
         }
     }
 
+    /// Says whether a session has noted that it waits for a command.
+    pub(crate) fn awaits_command(&self, session: u64) -> bool {
+        let note = self.note_of(session);
+        note & WAITS != 0 && matches!(awaited_of(note), Awaited::Command)
+    }
+
     /// Tells what a session has noted.
     pub(crate) fn tell(&self, guests: &mut Guests, session: u64) {
         let note = self.note_of(session);

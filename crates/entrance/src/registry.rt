@@ -75,6 +75,11 @@ impl<'a, R> Registry<'a, R> {
         self.journal.is_quiet()
     }
 
+    /// Says whether a session waits for a command, as far as it has noted that.
+    pub(crate) fn awaits_command(&self, session: u64) -> bool {
+        self.notes.awaits_command(session)
+    }
+
     /// Says how many sessions there may be at a time.
     pub(crate) fn sessions(&self) -> u64 {
         self.sessions

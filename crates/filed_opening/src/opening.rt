@@ -1,7 +1,7 @@
 //! A repository opened from its files.
 ghost use Rattle.std.specs.Prelude.{IfOk, IfErr};
 ghost use Rattle.store_files.specs.Folders.{Folder, IsSame};
-ghost use Rattle.repostore.specs.Opening.{IsUnopened};
+ghost use Rattle.repostore.specs.Opening.{IsUnopened, OnlyReads};
 ghost use Rattle.store_access.specs.Stored.{BeginsOver, IsOpened};
 ghost use Rattle.filed_opening.specs.Faults.{IsHindered, folder_faults};
 
@@ -23,6 +23,7 @@ pub fn open<S: Store>(alloc: Global, store: S) -> Result<FolderRepository<S>, Un
     ensures found { IfOk result (IsOpened store) }
     // What is opened is not halted, has no pending change, and counts no failure of its own.
     ensures begins { IfOk result (BeginsOver store) }
+    ensures reads { IfOk result (λ opened. OnlyReads S.Store store opened.saves.store) }
     ensures failed { IfErr result (IsHindered S.Store store) }
     ensures unopened { IfErr result (λ unopened. IsUnopened S.Store folder_faults store unopened) }
 {

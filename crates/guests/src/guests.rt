@@ -1,5 +1,5 @@
 //! All sessions that are open.
-ghost use Rattle.std.specs.Prelude.{◌≡◌, ◌<◌, length, IfSome};
+ghost use Rattle.std.specs.Prelude.{◌≡◌, ◌<◌, ℕ, get_or, length, IfSome, Some};
 ghost use Rattle.guests.specs.Silence.{ending, gives_place, is_longest_silent, is_wanted, staying};
 
 use crate::awaited::Awaited;
@@ -161,7 +161,11 @@ impl Guests {
     }
 
     /// Says why a session ends now, where so many have places, if it does. Whoever gives its place up is not asked for another.
-    pub fn ending_of(&mut self, session: u64, places: usize, now: u64) -> Option<Ending> {
+    pub fn ending_of(&mut self, session: u64, places: usize, now: u64) -> Option<Ending>
+        ensures { IfSome result (λ why. (place : ℕ) × (place < length self.old.present.items)
+            × ((guest : Guest) → ending now (get_or self.old.present.items place guest)
+            self.old.present.items self.old.wanted places ≡ Some why)) }
+    {
         let place = place_of(self.present.as_slice(), session)?;
         let guest = self.present[place];
         let ending = ending(now, &guest, self, places);

@@ -69,6 +69,28 @@ const COMMAND: &[u8] = b"( get-latest-rev ( ) ) ";
 
 const REPLIES: &[u8] = b"( success ( ( ) 0: ) ) ( success ( 0 ) ) ";
 
+/// What is told where an item is malformed.
+const MALFORMED: &[u8] = b"( failure ( ( 210004 14:malformed data 0: 0 ) ) ) ";
+
+/// Says whether the session ends within a million lists that are opened, and what came before in the piece is answered.
+fn ends_within<A: SoleAccess + Drop>(rt: &impl Abort, alloc: Global, hub: Hub<A>) -> bool {
+    let mut hub = hub;
+    let (number, _) = hub.connect().expect(rt, "a session");
+    drop(hub.feed(number, CLIENT, ENV).expect(rt, "replies"));
+    let lists = b"( ".repeat(alloc, 1_000_000).expect(rt, "memory");
+    let mut sent = Vec::from_slice(alloc, COMMAND).expect(rt, "memory");
+    sent.extend_from_slice(lists.as_slice())
+        .expect(rt, "memory");
+    let told = hub.feed(number, sent.as_slice(), ENV).expect(rt, "replies");
+    are(told.as_slice(), &[REPLIES, MALFORMED]) && !hub.is_open(number)
+}
+
+#[test]
+fn a_million_lists_are_not_opened(rt: HostRuntime) {
+    let hub = new_hub::<World>(&rt, rt.alloc(), options_of_r(&rt, rt.alloc()));
+    assert!(rt; ends_within(&rt, rt.alloc(), hub));
+}
+
 /// Notes how it is called.
 #[derive(Drop)]
 struct Noting {

@@ -173,6 +173,7 @@ unlock_ask client command path = record {
   user = client.user;
   token = command.token;
   breaks = command.breaks;
+  tells_dead_tokens = client.is_of_today;
 }
 
 -- a lock that is made uses the token, and is told

@@ -7,7 +7,7 @@ use Rattle.svnpath.specs.{Paths.{Component, PathValue}, declared.fault.PathFault
 use Rattle.refusals.specs.{declared.Refusal.Refusal, Refusing.path_refusal}
 use Rattle.refusals.specs.declared.Refusal.TheVariants as refusals
 use Rattle.repo_api.specs.{Kinds.{created_at, kind_at, node_properties_at, or_empty, properties_at, text_at}, Properties.{PropertyList, with_property}}
-use Rattle.repo_api.specs.{Dates.is_date_text, Readings.names_at, States.RepoState, declared.entry.NodeKind.NodeKind}
+use Rattle.repo_api.specs.{Dates.is_date_text, Judging.is_property_name, Readings.names_at, States.RepoState, declared.entry.NodeKind.NodeKind}
 use Rattle.repo_api.specs.declared.entry.NodeKind.TheVariants as kinds
 use Rattle.traces.specs.declared.place.Place.{Place}
 use Rattle.history.specs.Dates.{dated_rev}
@@ -53,7 +53,9 @@ dated_reply c date =
     else replies.Failure refusals.NotSupported None
 
 abbrev pub property_reply_at : RepoState → List ℕ → Result ℕ Refusal → Reply
-property_reply_at c name (Ok n) = replies.RevisionProperty (revision_value c name n)
+property_reply_at c name (Ok n) =
+    if is_property_name name then replies.RevisionProperty (revision_value c name n)
+    else replies.Failure refusals.NotSupported None
 property_reply_at c name (Err r) = replies.Failure r None
 
 abbrev pub property_reply : RepoState → ℕ → List ℕ → Reply

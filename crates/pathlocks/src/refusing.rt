@@ -1,7 +1,7 @@
 //! What refuses the use of a lock.
 ghost use Rattle.std.specs.{Prelude.{◌≡◌, ℕ, List, IfOk, map, option_copied}, Map.Iter.deref_pair};
 ghost use Rattle.pathlocks.specs.Handed.{is_lent};
-ghost use Rattle.repo_api.specs.Locking.{entry_refusal, first_refusal, first_refusing, holder_refusal, is_handed_in, is_held, is_token, lock_of};
+ghost use Rattle.repo_api.specs.Locking.{entry_refusal, first_refusal, first_refusing, holder_refusal, is_dead_token, is_handed_in, is_held, is_token, lock_of};
 ghost use Rattle.repo_api.specs.Locking.{lock_place_refusal, owner_of, taking_refusal, user_refusal, way_refusal};
 
 use byte_string::ByteString;
@@ -112,6 +112,13 @@ fn is_token(token: Option<&ByteString>, lock: &Lock) -> bool
     }
 }
 
+/// Says whether a token that is handed in is of another lock than this, and is to be told as one of no lock.
+fn is_dead_token(ask: &UnlockAsk, lock: &Lock) -> bool
+    ensures { result ≡ is_dead_token ask.now lock.now }
+{
+    ask.tells_dead_tokens && ask.token.is_some() && !is_token(ask.token.as_ref(), lock)
+}
+
 /// Says why the lock, if there is one, is not taken away.
 pub(crate) fn taking_refusal(ask: &UnlockAsk, lock: Option<&Lock>) -> Option<Refusal>
     ensures { result ≡ taking_refusal ask.now (option_copied lock.entry) }
@@ -120,10 +127,12 @@ pub(crate) fn taking_refusal(ask: &UnlockAsk, lock: Option<&Lock>) -> Option<Ref
         return Some(Refusal::NoSuchLock);
     };
     if ask.breaks {
-        None
-    } else {
-        holder_refusal(ask.user.as_ref(), is_token(ask.token.as_ref(), lock), lock)
+        return None;
     }
+    if is_dead_token(ask, lock) {
+        return Some(Refusal::NoSuchLock);
+    }
+    holder_refusal(ask.user.as_ref(), is_token(ask.token.as_ref(), lock), lock)
 }
 
 /// Refuses a lock without a user: only a user locks.

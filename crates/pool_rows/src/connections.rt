@@ -1,7 +1,7 @@
 //! Connections in memory, and what stands at their other end.
 use conversations::{Env, EnvSource};
 use crossbeam_channel::{Receiver, Sender, unbounded};
-use presence::Connection;
+use presence::{Connection, Presence};
 use session_pool::Caller;
 use std::alloc::Global;
 use std::io;
@@ -178,7 +178,7 @@ fn caller_of<'a, R: Abort + Wait>(
         client: call.client,
         room: call.room,
     };
-    Caller::new(number, input, output, None)
+    Caller::new(number, input, output, Connection::nobody())
 }
 
 /// Sends callers to the workers, numbered from 1 on, and then no more.

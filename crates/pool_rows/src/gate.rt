@@ -15,6 +15,7 @@ use serving::Desk;
 use session_pool::SessionPool;
 use std::alloc::Global;
 use std::marker::Brand;
+use std::mem::drop;
 use std::process::Abort;
 use std::random::RandomSource;
 use std::sync::Wait;
@@ -71,8 +72,17 @@ const COMMIT: &[u8] = b"( commit ( 6:second ( ) false ) ) ( open-root ( ( ) 2:d0
       ( add-dir ( 5:trunk 2:d0 2:d1 ( ) ) ) ( close-dir ( 2:d1 ) ) ( close-dir ( 2:d0 ) ) \
       ( close-edit ( ) ) ";
 
+/// What is told before its commit is made.
+const SAVED: &[u8] =
+    b"( success ( ( ) 0: ) ) ( success ( ) ) ( success ( ) ) ( success ( ( ) 0: ) ) ";
+
 /// How its commit is answered.
 const COMMITTED: &[u8] = b"( 1 ( 27:1970-01-01T00:00:00.000000Z ) ( ) ( ) ) ";
+
+/// It asks for the youngest revision, which is its own.
+const LATEST: &[u8] = b"( get-latest-rev ( ) ) ";
+
+const YOUNGEST: &[u8] = b"( success ( ( ) 0: ) ) ( success ( 1 ) ) ";
 
 /// Serves callers at a desk, with one moment and one word, until no more can come.
 fn work_still<R, F, S, J, G>(
@@ -91,7 +101,7 @@ where
     requires { AreSound (content_of (point_of desk.seat)).revisions }
 {
     let (access, _) = desk.into_parts();
-    pool.serve_at(rt, alloc, &*callers, (access, AT_ZERO));
+    drop(pool.serve_at(rt, alloc, &*callers, (access, AT_ZERO)));
 }
 
 /// Serves callers in threads, one for each desk, until no more can come.
@@ -149,7 +159,7 @@ where
             room: usize::MAX,
         },
         Call {
-            pieces: &[LOGIN, COMMIT],
+            pieces: &[LOGIN, COMMIT, LATEST],
             client: clients.1,
             room: usize::MAX,
         },
@@ -181,5 +191,6 @@ fn a_session_is_served_while_another_waits(rt: HostRuntime) {
         NewHistory::new(),
     );
     let is_let_go = turns.load(Ordering::SeqCst) < MOST_TURNS;
-    assert!(rt; is_let_go && first.has_heard(&rt, &[WELCOME, ABORTED]));
+    let is_seen = second.has_heard(&rt, &[WELCOME, SAVED, COMMITTED, YOUNGEST]);
+    assert!(rt; is_let_go && is_seen && first.has_heard(&rt, &[WELCOME, ABORTED]));
 }

@@ -13,6 +13,7 @@ use published::{Naming, NewHistory};
 use serving::{Desks, desks_of};
 use session_pool::SessionPool;
 use std::alloc::Global;
+use std::mem::drop;
 use std::process::Abort;
 use std::random::RandomSource;
 use std::sync::Wait;
@@ -56,7 +57,7 @@ pub(crate) fn work_alone<F: SoundTrees, S: Store, G: Gate, W: Watch, R: Wait>(
     (stored, envs): (StoredRepository<F, S>, Still),
 ) {
     stored.repository().trees_are_sound();
-    pool.serve_at(rt, alloc, callers, (stored, envs));
+    drop(pool.serve_at(rt, alloc, callers, (stored, envs)));
 }
 
 /// Makes so many desks of a repository that is shared, with what is shared.

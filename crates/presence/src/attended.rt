@@ -2,7 +2,7 @@
 ghost use Rattle.std.specs.Prelude.{◌≡◌};
 
 use crate::client::Presence;
-use crate::view::{AttendedView, share_of};
+use crate::view::AttendedView;
 use access::{Committed, NotCommitted, RepoAccess, SharedAccess};
 use repo_api::{ChangeFault, CommitAsk, LockAsk, PropertyAsk, Repository, UnlockAsk};
 use std::alloc::AllocError;
@@ -13,7 +13,7 @@ use std::mem::{self, drop};
 #[derive(Drop)]
 pub struct AttendedAccess<A, P> {
     pub access: A,
-    client: Option<P>,
+    client: P,
 }
 
 impl<A: RepoAccess + Drop, P: Presence> AttendedAccess<A, P> {
@@ -23,12 +23,21 @@ impl<A: RepoAccess + Drop, P: Presence> AttendedAccess<A, P> {
     {
         AttendedAccess {
             access,
-            client: None,
+            client: P::nobody(),
         }
     }
 
-    /// Serves this client from now on, or one that is not asked whether it is there.
-    pub fn attend(&mut self, client: Option<P>)
+    /// Gives the access, for no client any more.
+    pub fn into_access(self) -> A
+        ensures { result ≡ self.access }
+    {
+        let AttendedAccess { access, client } = self;
+        drop(client);
+        access
+    }
+
+    /// Serves this client from now on.
+    pub fn attend(&mut self, client: P)
         ensures { self.new.access ≡ self.old.access }
     {
         drop(mem::replace(&mut self.client, client));
@@ -56,7 +65,7 @@ impl<A: RepoAccess + Drop, P: Presence> RepoAccess for AttendedAccess<A, P> {
 
     fn look(&mut self) -> Result<AttendedView<A::View, P>, AllocError> {
         let view = self.access.look()?;
-        let client = share_of(&self.client)?;
+        let client = self.client.share()?;
         Ok(AttendedView {
             view,
             client,

@@ -4,6 +4,9 @@ use std::alloc::AllocError;
 /// What can be asked whether a client is still there. No promise rests on the answer: where it says that the client has
 /// gone, its session ends early.
 pub trait Presence: Drop {
+    /// Makes one that is not to be asked for, and never says that it has gone.
+    fn nobody() -> Self;
+
     /// Makes another of the same client.
     fn share(&self) -> Result<Self, AllocError>;
 

@@ -5,10 +5,10 @@ use std::io::ErrorKind;
 use std::net::TcpStream;
 use std::sync::Arc;
 
-/// A client at the other end of a connection. It has gone where the connection has failed, or where it sends nothing
-/// more and all that it has sent was read.
+/// A client at the other end of a connection, if there is one. It has gone where the connection has failed, or where it
+/// sends nothing more and all that it has sent was read.
 pub struct Connection {
-    stream: Arc<TcpStream>,
+    stream: Option<Arc<TcpStream>>,
 }
 
 impl Drop for Connection {
@@ -20,7 +20,9 @@ impl Drop for Connection {
 impl Connection {
     /// Takes the stream of a connection.
     pub fn new(stream: Arc<TcpStream>) -> Self {
-        Connection { stream }
+        Connection {
+            stream: Some(stream),
+        }
     }
 }
 
@@ -43,13 +45,23 @@ pub fn has_gone(stream: &TcpStream) -> bool {
 }
 
 impl Presence for Connection {
+    fn nobody() -> Self {
+        Connection { stream: None }
+    }
+
     fn share(&self) -> Result<Self, AllocError> {
-        Ok(Connection {
-            stream: Arc::try_clone(&self.stream)?,
-        })
+        match &self.stream {
+            None => Ok(Connection { stream: None }),
+            Some(stream) => Ok(Connection {
+                stream: Some(Arc::try_clone(stream)?),
+            }),
+        }
     }
 
     fn is_gone(&self) -> bool {
-        has_gone(self.stream.as_ref())
+        match &self.stream {
+            None => false,
+            Some(stream) => has_gone(stream.as_ref()),
+        }
     }
 }

@@ -16,7 +16,7 @@ const LISTED_BETWEEN: u32 = 64;
 /// walk through history, which lists one at each step, ends so too.
 pub struct AttendedView<V: Repository, P: Presence> {
     pub(crate) view: V,
-    pub(crate) client: Option<P>,
+    pub(crate) client: P,
     /// How many directories were listed since the client was asked for.
     pub(crate) listed: Cell<u32>,
 }
@@ -31,14 +31,6 @@ impl<V: Repository, P: Presence> Drop for AttendedView<V, P> {
     }
 }
 
-/// Makes another of a client, if there is one.
-pub(crate) fn share_of<P: Presence>(client: &Option<P>) -> Result<Option<P>, AllocError> {
-    match client {
-        None => Ok(None),
-        Some(client) => Ok(Some(client.share()?)),
-    }
-}
-
 impl<V: Repository, P: Presence> AttendedView<V, P> {
     /// Says whether the client has gone, as far as it is asked for: at each 64th directory that is listed.
     fn has_no_client(&self) -> bool {
@@ -48,10 +40,7 @@ impl<V: Repository, P: Presence> AttendedView<V, P> {
             return false;
         }
         self.listed.set(0);
-        match &self.client {
-            None => false,
-            Some(client) => client.is_gone(),
-        }
+        self.client.is_gone()
     }
 }
 
@@ -64,7 +53,7 @@ impl<V: Repository, P: Presence> Repository for AttendedView<V, P> {
 
     fn share(&self) -> Result<Self, AllocError> {
         let view = self.view.share()?;
-        let client = share_of(&self.client)?;
+        let client = self.client.share()?;
         Ok(AttendedView {
             view,
             client,

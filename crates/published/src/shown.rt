@@ -170,7 +170,9 @@ impl<T: Absorb<O> + Drop, O: Drop> Desk<T, O> {
     }
 
     /// Makes a reader.
-    pub fn reader(&self) -> Result<Reader<T, (), Unruled>, AllocError> {
+    pub fn reader(&self) -> Result<Reader<T, (), Unruled>, AllocError>
+        ensures { IfOk result (λ r. r.place.table_id ≡ self.now.writer.desk.place.table_id) }
+    {
         self.writer.factory().reader()
     }
 

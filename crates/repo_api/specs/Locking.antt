@@ -158,11 +158,19 @@ abbrev pub is_token : Option (List ℕ) → Lock → Bool
 is_token None l = false
 is_token (Some token) l = same_component token l.token
 
+-- a token that is handed in is of another lock than this, and is to be told as one of no lock
+abbrev pub is_dead_token : UnlockAsk → Lock → Bool
+is_dead_token ask l = ask.tells_dead_tokens && (is_some ask.token && not (is_token ask.token l))
+
 -- why the lock, if there is one, is not taken away
 abbrev pub taking_refusal : UnlockAsk → Option Lock → Option Refusal
 taking_refusal ask None = Some refusals.NoSuchLock
 taking_refusal ask (Some l) =
-    if ask.breaks then None else holder_refusal ask.user (is_token ask.token l) l
+    if ask.breaks
+    then None
+    else (if is_dead_token ask l
+    then Some refusals.NoSuchLock
+    else holder_refusal ask.user (is_token ask.token l) l)
 
 -- why an unlock that is asked for is refused
 abbrev pub unlock_refusal : RepoState → UnlockAsk → Option Refusal

@@ -24,4 +24,6 @@ pub struct UnlockAsk {
     pub user: Option<ByteString>,
     pub token: Option<ByteString>,
     pub breaks: bool,
+    /// Whether a token of another lock is told as one of no lock, whoever's the lock is.
+    pub tells_dead_tokens: bool,
 }

@@ -10,13 +10,12 @@ use filed_world::FiledWorld;
 use published::NewHistory;
 use std::alloc::Global;
 use std::marker::Brand;
-use std::mem::swap;
 use std::process::Abort;
 
-/// How many commits the two seats make.
+/// How many commits one seat makes.
 const COMMITS: u64 = 100;
 
-/// Says whether each commit is in the other seat's next look. The seats commit in turn.
+/// Says whether each commit is in the next look of the other seat, which makes no change itself; and so the other way round.
 pub(crate) fn are_seen<A: RepoAccess<View = V> + Drop, V: SoundTrees>(
     rt: &impl Abort,
     alloc: Global,
@@ -28,9 +27,10 @@ pub(crate) fn are_seen<A: RepoAccess<View = V> + Drop, V: SoundTrees>(
         are_seen = are_seen
             && commit(rt, alloc, &mut one) == Ok(number)
             && youngest(rt, &mut other) == number;
-        swap(&mut one, &mut other);
     }
     are_seen
+        && commit(rt, alloc, &mut other) == Ok(COMMITS + 1)
+        && youngest(rt, &mut one) == COMMITS + 1
 }
 
 #[test]

@@ -121,6 +121,7 @@ fn unlock_ask(rt: &impl Abort, alloc: Global, letter: u8) -> UnlockAsk {
         user: Some(bytes(rt, alloc, &[letter])),
         token: Some(bytes(rt, alloc, &[letter])),
         breaks: false,
+        tells_dead_tokens: false,
     }
 }
 

@@ -2,9 +2,10 @@
 ghost use Rattle.std.specs.Prelude.{◌≡◌, All, IfOk, map};
 ghost use Rattle.access.specs.Points.{content_of};
 ghost use Rattle.keepers.specs.Standing.{HaveSeenOpening};
-ghost use Rattle.published.specs.Events.{point_of};
+ghost use Rattle.published.specs.{Events.{point_of}, Moments.{shared_rules}};
 ghost use Rattle.repo_api.specs.Soundness.{AreSound};
-ghost use Rattle.session_pool.specs.Serving.{settings_of};
+ghost use Rattle.serving.specs.Handing.{HandsIn};
+ghost use Rattle.session_pool.specs.Serving.{ServesInTurn, settings_of, stand};
 
 use crate::envs::SystemEnvs;
 use crate::fault::ServingFault;
@@ -14,8 +15,11 @@ use crossbeam_channel::Receiver;
 use entrance::{Client, Halts, Registry};
 use filed_archive::{ServedAccess, ServedChanges, ServedRepo, ServedSeat, share};
 use published::{Naming, NewHistory};
+use rand::rngs::StdRng;
+use rand_core::Rng;
 use session_pool::SessionPool;
 use std::alloc::Global;
+use std::mem::drop;
 use std::random::RandomSource;
 use std::sync::{Arc, Wait};
 use std::time::Clock;
@@ -47,7 +51,8 @@ impl<'r, R: Clock, F: Filed, S: Store, J: Naming> Drop for Desk<'r, R, F, S, J> 
 impl<'r, R: Clock + Wait, F: Filed, S: Store, J: Naming> Desk<'r, R, F, S, J> {
     /// Gives the seat as a session reaches it, and what hands moments and words in.
     pub fn into_parts(self) -> (Access<'r, R, F, S, J>, SystemEnvs<'r, R>)
-        ensures { result.0.looks ≡ self.entry.seat }
+        ensures seat { result.0.looks ≡ self.entry.seat }
+        ensures envs { result.1 ≡ self.entry.envs }
     {
         let Desk {
             repository,
@@ -63,7 +68,31 @@ impl<'r, R: Clock + Wait, F: Filed, S: Store, J: Naming> Desk<'r, R, F, S, J> {
     }
 }
 
-/// Serves callers at a desk, one after another, until no more can come, each by what the server serves them by.
+/// Serves callers at a desk, one after another, until no more can come, with the options of the server, from the moment
+/// that its seat has seen. It gives back what they were served at.
+fn served_at<'r, R, F, S, J>(
+    server: &Server<'_, R>,
+    pool: &SessionPool<'_, Registry<'_, R>, Registry<'_, R>>,
+    callers: &Receiver<Client<'_, R>>,
+    desk: Desk<'r, R, F, S, J>,
+) -> (Access<'r, R, F, S, J>, SystemEnvs<'r, R>)
+where
+    R: Clock + RandomSource + Wait,
+    F: Filed,
+    S: Store,
+    J: Naming,
+    requires options { settings_of pool.now ≡ server.now.settings.now.options }
+    requires sound { AreSound (content_of (point_of desk.seat)).revisions }
+    ensures { let options = server.now.settings.now.options in ServesInTurn shared_rules
+        (λ old env new. HandsIn (⟦<StdRng as Rng>⟧.stream old.words) env
+        (⟦<StdRng as Rng>⟧.stream new.words))
+        (stand options (point_of desk.entry.seat) desk.entry.envs)
+        (stand options (point_of result.0.looks) result.1) }
+{
+    pool.serve_at(server.rt, server.alloc, callers, desk.into_parts())
+}
+
+/// Serves callers at a desk, one after another, until no more can come.
 pub(crate) fn work_at<R, F, S, J>(
     server: &Server<'_, R>,
     pool: &SessionPool<'_, Registry<'_, R>, Registry<'_, R>>,
@@ -78,7 +107,7 @@ where
     requires options { settings_of pool.now ≡ server.now.settings.now.options }
     requires sound { AreSound (content_of (point_of desk.seat)).revisions }
 {
-    pool.serve_at(server.rt, server.alloc, callers, desk.into_parts());
+    drop(served_at(server, pool, callers, desk));
 }
 
 /// A repository in files that sessions share.

@@ -61,6 +61,7 @@ fn unlock_ask(client: &Client, command: &UnlockCommand, path: Path) -> Result<Un
         user: client.user.clone()?,
         token: command.token.clone()?,
         breaks: command.breaks,
+        tells_dead_tokens: client.is_of_today,
         path,
     })
 }

@@ -34,6 +34,7 @@ fn tell_unmade<R: Repository, S: ReplySink>(
         user,
         token,
         breaks: _,
+        tells_dead_tokens: _,
     } = ask;
     drop(user);
     drop(token);

@@ -6,22 +6,23 @@ use machine::Options;
 use presence::{AttendedAccess, Presence};
 use std::alloc::Global;
 use std::io::{Read, Write};
+use std::mem;
 
-/// A connection that was accepted: the number of its session, its two ends, and its client, where that is to be asked
-/// whether it is still there. Only who serves it has its ends.
+/// A connection that was accepted: the number of its session, its two ends, and its client, who is asked whether it is
+/// still there. Only who serves it has its ends.
 #[derive(Drop)]
 pub struct Caller<I, O, P> {
     number: u64,
     input: I,
     output: O,
-    client: Option<P>,
+    client: P,
 }
 
 impl<I, O, P> Caller<I, O, P> {
     ghost use Rattle.std.specs.Prelude.{◌≡◌};
 
     /// Makes the caller of the session of this number, by its two ends and its client.
-    pub fn new(number: u64, input: I, output: O, client: Option<P>) -> Self
+    pub fn new(number: u64, input: I, output: O, client: P) -> Self
         ensures { result ≡ record { number = number; input = input; output = output; client = client } }
     {
         Caller {
@@ -94,10 +95,29 @@ impl<'w, A: RepoAccess + Drop, E: EnvSource + Drop, G: Gate, W: Watch, P: Presen
             (O.contents caller.new.output) (stands A.point self.old) (stands A.point self.new) }
     {
         let worker = &mut self.worker;
-        worker.access.attend(caller.client.take());
+        worker
+            .access
+            .attend(mem::replace(&mut caller.client, P::nobody()));
         let done = worker.serve(caller.number, &mut caller.input, &mut caller.output);
-        worker.access.attend(None);
+        worker.access.attend(P::nobody());
         done
+    }
+
+    /// Gives the access to the repository back, and the source of what was handed in.
+    pub(crate) fn into_desk(self) -> (A, E)
+        ensures point { A.point result.0 ≡ (stands A.point self.entry).point }
+        ensures envs { result.1 ≡ self.entry.worker.envs }
+    {
+        let Attendant { worker } = self;
+        let Worker {
+            alloc: _,
+            options: _,
+            access,
+            envs,
+            gate: _,
+            watch: _,
+        } = worker;
+        (access.into_access(), envs)
     }
 
     /// Says whether changes are known to have come to a halt.

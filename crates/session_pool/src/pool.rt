@@ -37,7 +37,7 @@ impl<'p, G: Gate, W: Watch> SessionPool<'p, G, W> {
     ghost use Rattle.std.specs.Prelude.{◌≡◌};
     ghost use Rattle.access.specs.Points.{content_of};
     ghost use Rattle.repo_api.specs.Soundness.{AreSound};
-    ghost use Rattle.session_pool.specs.Serving.{ServesInTurn, settings_of, Stand, stand, stands};
+    ghost use Rattle.session_pool.specs.Serving.{ServesInTurn, settings_of, stand, stands};
 
     /// Makes a pool of so many places, in which no session is open.
     pub fn new(options: &'p Options, gate: &'p G, watch: &'p W, sessions: u64) -> Self
@@ -117,7 +117,7 @@ impl<'p, G: Gate, W: Watch> SessionPool<'p, G, W> {
     }
 
     /// Serves callers at an access to the repository, one after another, until no more can come, with the options of the
-    /// pool, and does nothing else there.
+    /// pool, and does nothing else there. It gives the access back, and the source of what was handed in.
     pub fn serve_at<
         R: Wait,
         A: RepoAccess + Drop,
@@ -125,12 +125,14 @@ impl<'p, G: Gate, W: Watch> SessionPool<'p, G, W> {
         I: Read + Drop,
         O: Write + Drop,
         P: Presence,
-    >(&self, rt: &R, alloc: Global, callers: &Receiver<Caller<I, O, P>>, desk: (A, E))
+    >(&self, rt: &R, alloc: Global, callers: &Receiver<Caller<I, O, P>>, desk: (A, E)) -> (A, E)
         requires { AreSound (content_of (A.point desk.0)).revisions }
-        ensures { (last : Stand E) × ServesInTurn A.rules E.gives
-            (stand (settings_of self.now) (A.point desk.0) desk.1) last }
+        ensures { ServesInTurn A.rules E.gives
+            (stand (settings_of self.now) (A.point desk.0) desk.1)
+            (stand (settings_of self.now) (A.point result.0) result.1) }
     {
         let mut attendant = self.attendant(alloc, desk);
         self.work(rt, callers, &mut attendant);
+        attendant.into_desk()
     }
 }

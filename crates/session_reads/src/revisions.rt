@@ -7,7 +7,7 @@ use crate::places::revision_read;
 use byte_string::ByteString;
 use history::dated_rev;
 use refusals::Refusal;
-use repo_api::{Properties, Repository, is_date_text};
+use repo_api::{Properties, Repository, is_date_text, is_property_name};
 use std::alloc::AllocError;
 use wire_forms::copy_optional;
 use wire_replies::Reply;
@@ -23,7 +23,7 @@ pub(crate) fn get_dated_rev<R: Repository>(view: &R, date: &[u8]) -> Reply
     }
 }
 
-/// Gives a property of a revision, if the revision is there.
+/// Gives a property of a revision, if the revision is there, and a property may have the name.
 pub(crate) fn rev_prop<R: Repository>(
     view: &R,
     revision: u64,
@@ -32,7 +32,10 @@ pub(crate) fn rev_prop<R: Repository>(
     ensures { Makes result (property_reply (R.content view.now) revision name.now) }
 {
     match revision_read(view, Some(revision)) {
-        Ok(n) => Ok(Reply::RevisionProperty(revision_value(view, name, n)?)),
+        Ok(n) if is_property_name(name) => {
+            Ok(Reply::RevisionProperty(revision_value(view, name, n)?))
+        }
+        Ok(_) => Ok(Reply::Failure(Refusal::NotSupported, None)),
         Err(refusal) => Ok(Reply::Failure(refusal, None)),
     }
 }

@@ -1,5 +1,5 @@
 -- What is a session's own.
-use Rattle.std.proofs.Common.{◌≡◌, ◌⊎◌, inl, inr, ℕ, List, [], ◌∷◌, ◌++◌, Option, Some, None, refl, sym, ap, subst, ◌∙◌, append-nil, append_assoc}
+use Rattle.std.proofs.Common.{◌≡◌, inl, inr, ℕ, List, [], ◌∷◌, ◌++◌, Option, Some, None, refl, sym, ap, subst, ◌∙◌, append-nil, append_assoc}
 use Rattle.std.specs.{Prelude.{Result, Ok, Err}, Io.KnownBytes.Appends}
 use Rattle.repo_api.specs.Accepted.{Accepted}
 use Rattle.access.specs.Points.{AccessRules, content_of, Point}

@@ -1,11 +1,11 @@
 //! What holds of a repository that threads share. The functions do nothing: their contracts are the laws.
-ghost use Rattle.std.specs.Prelude.{◌<◌, ◌++◌, ℕ, List, length};
+ghost use Rattle.std.specs.Prelude.{◌≡◌, ◌<◌, ◌++◌, ℕ, List, [], ◌∷◌, length};
 ghost use Rattle.repo_api.specs.Accepted.{Accepted};
 ghost use Rattle.access.specs.Points.{Point};
 ghost use Rattle.wire_replies.specs.declared.reply.Reply.{Reply};
 ghost use Rattle.machine.specs.{Settings.Settings, Stages.Stage, Steps.FeedLost, declared.env.Env.Env};
 ghost use Rattle.conversations.specs.{Conversation.PiecesAt, Pieces.Piece};
-ghost use Rattle.published.specs.Events.{Event, IsHistory, changes_in, state_of};
+ghost use Rattle.published.specs.Events.{Event, Event.Makes, IsHistory, changes_in, own_in, state_of};
 ghost use Rattle.session_pool.specs.Serving.{ServesInTurn, Stand};
 ghost use Rattle.shared_runs.specs.{Histories.GoesOnWell, Own.{OwnInTurn, OwnOfBroken, OwnPieces}};
 
@@ -24,6 +24,17 @@ pub fn own_changes_are_asked_for<A: SharedAccess, E: EnvSource>()
         → OwnOfBroken s env lost.inputs lost.left phase p.own q.own }
     ensures turns { (old new : Stand E) → ServesInTurn A.rules E.gives old new
         → (turns : List (List Accepted)) × OwnInTurn old.settings old.point.own turns new.point.own }
+{}
+
+/// Shows that each change in the history of a shared repository, whoever made it, is what the sessions have asked for that were
+/// served at the seat of its author: it stands among what they asked for, and so do those that this author made before it and
+/// after it, in this order. The seat began with no change of its own, and knows the history for how far it has come.
+pub fn changes_of_the_history_are_asked_for<A: SharedAccess, E: EnvSource>()
+    ensures { (old new : Stand E) (author : ℕ) (before : List Event) (change : Accepted)
+        (later : List Event) → ServesInTurn A.rules E.gives old new
+        → old.point.own ≡ [] → new.point.own ≡ own_in author (before ++ Makes author change ∷ later)
+        → (turns : List (List Accepted)) × OwnInTurn old.settings [] turns
+        (own_in author before ++ change ∷ own_in author later) }
 {}
 
 /// Shows that, from each moment of the history of a shared repository to each later one, it goes on by the changes of the

@@ -3,4 +3,6 @@
 
 mod laws;
 
-pub use laws::{histories_go_on_well, own_changes_are_asked_for};
+pub use laws::{
+    changes_of_the_history_are_asked_for, histories_go_on_well, own_changes_are_asked_for,
+};

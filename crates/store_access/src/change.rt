@@ -28,5 +28,6 @@ pub(crate) fn copied(ask: &UnlockAsk) -> Result<UnlockAsk, AllocError>
         user: ask.user.clone()?,
         token: ask.token.clone()?,
         breaks: ask.breaks,
+        tells_dead_tokens: ask.tells_dead_tokens,
     })
 }

@@ -1,7 +1,7 @@
 //! A repository opened from its files.
 ghost use Rattle.std.specs.Prelude.{◌≡◌, Some, IfOk, IfErr, length};
 ghost use Rattle.store_files.specs.Folders.{Folder, IsSame};
-ghost use Rattle.repostore.specs.{Current.count_in, Files.Files, Opening.IsUnopened};
+ghost use Rattle.repostore.specs.{Current.count_in, Files.Files, Opening.{IsUnopened, OnlyReads}};
 ghost use Rattle.store_access.specs.Stored.{BeginsOver, IsOpened};
 
 use crate::filed::Filed;
@@ -32,6 +32,7 @@ pub fn open_repository<S: Store, L: Loader>(
     ensures found { IfOk result (IsOpened store) }
     // What is opened is not halted, has no pending change, and counts no failure of its own.
     ensures begins { IfOk result (BeginsOver store) }
+    ensures reads { IfOk result (λ opened. OnlyReads S.Store store opened.saves.store) }
     ensures unopened { IfErr result (λ unopened. IsUnopened S.Store L.faulty store unopened) }
 {
     let (saves, loader) = open::<S, L>(alloc, store)?;

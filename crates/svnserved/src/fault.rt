@@ -51,39 +51,102 @@ impl ProgramFault {
     }
 }
 
-/// Gives the number of a fault of a file, and what it means.
-fn file_text(fault: FileFault) -> &'static str {
-    match fault {
-        FileFault::Truncated => "X1: a file of the repository is cut off",
-        FileFault::BadLine => "X2: a file of the repository has a bad line",
-        FileFault::Delta => "X3: a text of the repository is stored as a delta",
-        FileFault::Digest => "X4: a file of the repository does not have its digest",
-        FileFault::Dangling => "X5: a file of the repository names what is not there",
-        FileFault::WrongFormat => "X6: the folder has no repository of format 2 or 3",
-        FileFault::NoMemory => "no memory",
+/// What a fault is called, by its number where it has one, and what it means to who reads it.
+#[derive(Clone, Copy)]
+struct Called {
+    name: &'static str,
+    meaning: &'static str,
+}
+
+impl fmt::Display for Called {
+    fn fmt<W: fmt::Write>(&self, f: &mut fmt::Formatter<W>) -> fmt::Result {
+        writeln!(f, "svnserved: {}", self.name)?;
+        writeln!(f, "  {}", self.meaning)
     }
 }
 
-/// Gives what is said where the files of a repository are not read, or not made.
-fn store_text(fault: StoreFault) -> &'static str {
+/// Gives what a fault is called, with its meaning.
+fn call_it(name: &'static str, meaning: &'static str) -> Called {
+    Called { name, meaning }
+}
+
+/// Gives what a fault of a file is called.
+fn file_fault(fault: FileFault) -> Called {
     match fault {
-        StoreFault::Exists => "exists",
-        StoreFault::Device => "O1: the device failed",
-        StoreFault::Halted => "O3: changes have come to a halt",
-        StoreFault::NoMemory => "no memory",
-        StoreFault::File(fault) => file_text(fault),
+        FileFault::Truncated => call_it("X1", "a file is cut off: take the folder from a backup"),
+        FileFault::BadLine => call_it("X2", "a file has a bad line: take the folder from a backup"),
+        FileFault::Delta => call_it(
+            "X3",
+            "another program wrote the folder, with texts as deltas: take its history over by `svnsync`",
+        ),
+        FileFault::Digest => call_it(
+            "X4",
+            "a file does not have its digest: take the folder from a backup",
+        ),
+        FileFault::Dangling => call_it(
+            "X5",
+            "a file names what is not there: take the folder from a backup",
+        ),
+        FileFault::WrongFormat => call_it(
+            "X6",
+            "there is no repository of format 2 or 3: take over that of another program by `svnsync`",
+        ),
+        FileFault::NoMemory => call_it("X7", "out of memory"),
     }
 }
 
-/// Gives what is said where a folder is not opened.
-fn folder_text(fault: FolderFault) -> &'static str {
+/// Gives what a fault is called by which the files of a repository are not read, or not made.
+fn store_fault(fault: StoreFault) -> Called {
     match fault {
-        FolderFault::Missing => "X6: there is no repository",
-        FolderFault::InUse => "the folder is in use",
-        FolderFault::NotPlain => "a file or folder of the repository is a link, or of another kind",
-        FolderFault::Unwritable => "O1: the folder cannot be written",
-        FolderFault::Device => "O1: the folder cannot be opened",
-        FolderFault::NoMemory => "no memory",
+        StoreFault::Exists => call_it("exists", "there is a repository, which is left as it is"),
+        StoreFault::Device => call_it(
+            "O1",
+            "the device failed: a file is not read, or not written",
+        ),
+        StoreFault::Halted => call_it("O3", "changes have come to a halt: start again"),
+        StoreFault::NoMemory => call_it("O4", "out of memory"),
+        StoreFault::File(fault) => file_fault(fault),
+    }
+}
+
+/// Gives what a fault is called by which a folder is not opened.
+fn folder_fault(fault: FolderFault) -> Called {
+    match fault {
+        FolderFault::Missing => call_it("X6", "there is no repository: make one by `create`"),
+        FolderFault::InUse => call_it("in use", "another program has the folder"),
+        FolderFault::NotPlain => call_it(
+            "not plain",
+            "a file or folder of the repository is a link, or of another kind",
+        ),
+        FolderFault::Unwritable => call_it("O1", "the folder cannot be written"),
+        FolderFault::Device => call_it("O1", "the folder cannot be opened"),
+        FolderFault::NoMemory => call_it("O4", "out of memory"),
+    }
+}
+
+/// Gives what a fault of a hub is called.
+fn hub_fault(fault: HubFault) -> Called {
+    match fault {
+        HubFault::NoSession => call_it("H1", "no session of that number is open"),
+        HubFault::NoMemory => call_it("H2", "out of memory"),
+        HubFault::Halted => call_it("H3", "changes have come to a halt: start again"),
+        HubFault::Full => call_it("H4", "all sessions are taken"),
+    }
+}
+
+/// A fault by which no sessions are served over TCP.
+#[derive(Clone, Copy)]
+struct Unserved<'a>(&'a ServingFault);
+
+impl fmt::Display for Unserved<'_> {
+    fn fmt<W: fmt::Write>(&self, f: &mut fmt::Formatter<W>) -> fmt::Result {
+        let fault = self.0;
+        match fault {
+            ServingFault::Name | ServingFault::Address => writeln!(f, "error: {fault}"),
+            ServingFault::Store(fault) => write!(f, "{}", store_fault(*fault)),
+            ServingFault::NoMemory => write!(f, "{}", call_it("O4", "out of memory")),
+            _ => writeln!(f, "svnserved: {fault}"),
+        }
     }
 }
 
@@ -91,10 +154,6 @@ impl fmt::Display for ProgramFault {
     fn fmt<W: fmt::Write>(&self, f: &mut fmt::Formatter<W>) -> fmt::Result {
         match self {
             ProgramFault::CommandLine(text) => write!(f, "{text}"),
-            ProgramFault::Serving(fault) if fault.is_of_command_line() => {
-                writeln!(f, "error: {fault}")
-            }
-            ProgramFault::Serving(fault) => writeln!(f, "svnserved: {fault}"),
             ProgramFault::Name => writeln!(
                 f,
                 "error: a name is 1 to 64 of A-Z, a-z, 0-9, `-`, `_` and `.`, and not `.` or `..`"
@@ -102,15 +161,16 @@ impl fmt::Display for ProgramFault {
             ProgramFault::Random | ProgramFault::Input(_) | ProgramFault::Output(_) => {
                 writeln!(f, "svnserved: io")
             }
-            ProgramFault::Hub(fault) => writeln!(f, "svnserved: {fault}"),
+            ProgramFault::Hub(fault) => write!(f, "{}", hub_fault(*fault)),
             ProgramFault::Folder(fault) | ProgramFault::NewFolder(fault) => {
-                writeln!(f, "svnserved: {}", folder_text(*fault))
+                write!(f, "{}", folder_fault(*fault))
             }
+            ProgramFault::Serving(fault) => write!(f, "{}", Unserved(fault)),
             ProgramFault::Store(fault)
             | ProgramFault::Unread(fault, _)
-            | ProgramFault::NewStore(fault) => { writeln!(f, "svnserved: {}", store_text(*fault)) }
+            | ProgramFault::NewStore(fault) => write!(f, "{}", store_fault(*fault)),
             ProgramFault::NotOfFormatTwo => {
-                writeln!(f, "svnserved: X6: the folder has no repository of format 2")
+                write!(f, "{}", call_it("X6", "there is no repository of format 2"))
             }
         }
     }

@@ -14,11 +14,11 @@ mod version;
 use command_line::{CommandLineFault, Location, Order, Service, read_command_line};
 use fault::ProgramFault;
 use filed_opening::FolderRepository;
-use folder_hub::{FolderHub, hub_over};
+use folder_hub::FolderHub;
 use hub::{HubFault, Options, is_repository_name};
 use migrating::migrate_folder;
 use published::NewHistory;
-use repositories::{DiskStore, create_in_folder, empty_hub, open_folder};
+use repositories::{DiskStore, create_in_folder, empty_hub, folder_hub, open_folder};
 use serving::{Reason, Settings, SystemEnvs, read_settings};
 use sharing::serve_shared;
 use std::alloc::Global;
@@ -27,7 +27,7 @@ use std::io::ErrorKind;
 use std::marker::Brand;
 use std::mem::drop;
 use std::process::ExitCode;
-use store_files::Store;
+use store_files::{MemoryStore, Store};
 use streams::run_stdio;
 use told::{Named, Told};
 use version::tell_version;
@@ -86,19 +86,29 @@ fn serve<S: Store>(rt: &HostRuntime, mut hub: FolderHub<S>) -> Result<(), Progra
     Ok(())
 }
 
-/// Serves one session over the standard streams, on the repository at a location.
-fn serve_stdio(
+/// Makes the hub of an empty repository in memory, with the options that are asked for.
+fn hub_in_memory(
+    alloc: Global,
+    name: &str,
+    revprops: bool,
+) -> Result<FolderHub<MemoryStore>, ProgramFault>
+    ensures { IfOk result (λ hub. hub.settings
+        ≡ record { name = name.now; users = None; revprops = revprops }) }
+{
+    empty_hub(alloc, options(alloc, name, revprops)?)
+}
+
+/// Makes the hub of the repository in a folder, with the options that are asked for.
+fn hub_in_folder(
     rt: &HostRuntime,
-    location: &Location,
-    options: Options,
-) -> Result<(), ProgramFault> {
-    match location {
-        Location::Memory => serve(rt, empty_hub(rt.alloc(), options)?),
-        Location::Folder(folder) => match open_folder(rt, folder) {
-            Ok(stored) => serve(rt, hub_over(rt.alloc(), stored, options)),
-            Err(fault) => Err(fault),
-        },
-    }
+    folder: &String,
+    name: &str,
+    revprops: bool,
+) -> Result<FolderHub<DiskStore>, ProgramFault>
+    ensures { IfOk result (λ hub. hub.settings
+        ≡ record { name = name.now; users = None; revprops = revprops }) }
+{
+    folder_hub(rt, folder, options(rt.alloc(), name, revprops)?)
 }
 
 /// Makes the fault of an order that cannot be served, with its text.
@@ -116,8 +126,10 @@ fn serve_one(
     name: &str,
     revprops: bool,
 ) -> Result<(), ProgramFault> {
-    let options = options(rt.alloc(), name, revprops)?;
-    serve_stdio(rt, location, options)
+    match location {
+        Location::Memory => serve(rt, hub_in_memory(rt.alloc(), name, revprops)?),
+        Location::Folder(folder) => serve(rt, hub_in_folder(rt, folder, name, revprops)?),
+    }
 }
 
 /// Opens the repository in a folder, into which files can be written.
@@ -143,11 +155,11 @@ fn prepare(
     ensures options { IfOk result (λ prepared. OptionsAreAsked service.now prepared.0) }
     ensures counts { IfOk result (λ prepared. CountsAreAsked service.now prepared.0) }
 {
+    let Location::Folder(folder) = &service.location else {
+        return Err(not_served(rt.alloc(), "error: DIR of `serve` is a folder\n"));
+    };
     let settings = read_settings(rt, rt.alloc(), service)?;
-    match &service.location {
-        Location::Folder(folder) => Ok((settings, open_to_write(rt, folder)?)),
-        Location::Memory => Err(not_served(rt.alloc(), "error: DIR of `serve` is a folder\n")),
-    }
+    Ok((settings, open_to_write(rt, folder)?))
 }
 
 /// Gives the status to end with; a fault is printed before, with where it was met.

@@ -1,5 +1,5 @@
 //! The repositories that are made and served.
-ghost use Rattle.std.specs.Prelude.{List, IfOk};
+ghost use Rattle.std.specs.Prelude.{◌≡◌, List, IfOk};
 ghost use Rattle.store_files.specs.{Folders.{Folder, IsSame}, Note.{Known, folder_of}};
 ghost use Rattle.store_access.specs.Stored.{IsOpened};
 ghost use Rattle.filed_world.specs.Files.{filed_content};
@@ -89,8 +89,24 @@ pub fn open_folder(
     }
 }
 
-/// Makes a hub over an empty repository in memory.
-pub fn empty_hub(alloc: Global, options: Options) -> Result<FolderHub<MemoryStore>, ProgramFault> {
+/// Makes a hub over the repository in a folder, with these options.
+pub fn folder_hub(
+    rt: &HostRuntime,
+    folder: &String,
+    options: Options,
+) -> Result<FolderHub<DiskStore>, ProgramFault>
+    ensures { IfOk result (λ hub. hub.settings ≡ options) }
+{
+    match open_folder(rt, folder) {
+        Ok(stored) => Ok(hub_over(rt.alloc(), stored, options)),
+        Err(fault) => Err(fault),
+    }
+}
+
+/// Makes a hub over an empty repository in memory, with these options.
+pub fn empty_hub(alloc: Global, options: Options) -> Result<FolderHub<MemoryStore>, ProgramFault>
+    ensures { IfOk result (λ hub. hub.settings ≡ options) }
+{
     let mut store = MemoryStore::new(alloc);
     create(alloc, &mut store, EMPTY_UUID, 0, 3)?;
     store.is_at_rest();

@@ -76,8 +76,8 @@ impl<'a> Named<'a> {
     }
 }
 
-/// A fault with what the order names: its own line, and after it one that says at which file, address or name it was met.
-/// Where there is no such thing, as where memory runs out, the fault's own line is all.
+/// A fault with what the order names: its own lines, and after them one that says at which file, address or name it was met.
+/// Where there is no such thing, as where memory runs out, the fault's own lines are all.
 #[derive(Clone, Copy)]
 pub struct Told<'a> {
     pub fault: &'a ProgramFault,
@@ -152,7 +152,10 @@ impl<'a> Named<'a> {
         match fault {
             ServingFault::Name => plain_place("--name is ", self.name),
             ServingFault::Address => plain_place("--listen is ", self.listen),
-            ServingFault::Users(_) => plain_place("of the file of users ", self.users),
+            ServingFault::Users(_) => plain_place(
+                "that line is not valid in the file of users ",
+                self.users,
+            ),
             ServingFault::UsersFile(reason) => {
                 failed_place("cannot read the file of users ", self.users, *reason)
             }
@@ -218,9 +221,9 @@ impl fmt::Display for Place<'_> {
             reason,
         } = self;
         match (file, reason) {
-            (Some(file), _) => writeln!(f, "{words}{name}, at {file}"),
-            (None, Some(reason)) => writeln!(f, "{words}{name}: {reason}"),
-            (None, None) => writeln!(f, "{words}{name}"),
+            (Some(file), _) => writeln!(f, "  {words}{name}, at {file}"),
+            (None, Some(reason)) => writeln!(f, "  {words}{name}: {reason}"),
+            (None, None) => writeln!(f, "  {words}{name}"),
         }
     }
 }

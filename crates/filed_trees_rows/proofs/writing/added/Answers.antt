@@ -1,6 +1,0 @@
-use Rattle.std.specs.List.Sorted.{IsStrictlySortedBy}
-use Rattle.filed_trees_rows.proofs.writing.added.Goals as goal
-
-pub write_revision-requires : goal.write_revision-requires
-unfolding IsStrictlySortedBy
-write_revision-requires c = (tt, tt)

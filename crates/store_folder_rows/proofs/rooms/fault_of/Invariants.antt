@@ -1,5 +1,0 @@
-use Rattle.std.proofs.Common.{[]}
-use Rattle.store_folder_rows.proofs.rooms.fault_of.Given as goal
-
-abbrev pub ghost-open : goal.ghost-open
-ghost-open g = []

@@ -1,5 +1,0 @@
-use Rattle.std.proofs.Common.{[]}
-use Rattle.store_folder_rows.proofs.rooms.made.Given as goal
-
-abbrev pub ghost-make : goal.ghost-make
-ghost-make g = []

@@ -1,5 +1,0 @@
-use Rattle.std.proofs.Common.{[]}
-use Rattle.svnserved.proofs.serve_stdio.Given as goal
-
-abbrev pub ghost-open_folder : goal.ghost-open_folder
-ghost-open_folder a = []
