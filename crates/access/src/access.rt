@@ -72,7 +72,7 @@ pub trait RepoAccess {
 
     /// Makes this the value of a property of a revision, or takes the property out where there is no
     /// value, if the value before is the one that is asked for.
-    fn change_property(&mut self, ask: PropertyAsk) -> Result<(), ChangeFault>
+    fn set_rev_prop(&mut self, ask: PropertyAsk) -> Result<(), ChangeFault>
         ensures { Happens rules (ChangesPropertyAt rules ask) (point self.old) result (point self.new) };
 
     ghost stays: { (p : Point) → rules.between p p };

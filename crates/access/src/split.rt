@@ -86,7 +86,7 @@ pub trait Changes<L: Looks> {
 
     /// Makes this the value of a property of a revision, or takes the property out where there is no
     /// value, if the value before is the one that is asked for.
-    fn change_property(&mut self, looks: &mut L, ask: PropertyAsk) -> Result<(), ChangeFault>
+    fn set_rev_prop(&mut self, looks: &mut L, ask: PropertyAsk) -> Result<(), ChangeFault>
         ensures { Happens L.rules (ChangesPropertyAt L.rules ask) (L.point looks.old) result
             (L.point looks.new) };
 }
@@ -149,8 +149,8 @@ impl<L: Looks + Drop, C: Changes<L> + Drop> RepoAccess for SplitAccess<L, C> {
         self.changes.unlock(&mut self.looks, ask)
     }
 
-    fn change_property(&mut self, ask: PropertyAsk) -> Result<(), ChangeFault> {
-        self.changes.change_property(&mut self.looks, ask)
+    fn set_rev_prop(&mut self, ask: PropertyAsk) -> Result<(), ChangeFault> {
+        self.changes.set_rev_prop(&mut self.looks, ask)
     }
 }
 

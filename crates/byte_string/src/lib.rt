@@ -3,40 +3,69 @@
 //! A `ByteString` owns any bytes: a component of a path, a string of the wire protocol, a token, a
 //! name, a text. A clause sees the list of its bytes and no buffer, so two that hold the same bytes
 //! are equal in clauses too, and a copy is the same value. They are ordered byte by byte; one that
-//! begins another is less.
+//! begins another is less. Up to 23 bytes take no memory of their own.
 #![tactic(auto)]
 
-ghost use Rattle.std.specs.{Prelude.{◌≡◌, ◌==◌, ℕ, List, refl, Some, IfOk}, Cmp.partial_equiv_from_equiv};
+ghost use Rattle.std.specs.{Prelude.{◌≡◌, ◌==◌, ◌≤◌, ℕ, List, refl, Some, IfOk, length}, Cmp.partial_equiv_from_equiv};
 ghost use Rattle.std.specs.{Cmp.Lexicographic.{slice_cmp, pointwise, texts_ties, texts_po}, Ordering.nat_cmp};
+ghost use Rattle.byte_string.specs.Bytes.{list_of, IsWithin};
 
 use std::alloc::{AllocError, Global};
 use std::cmp::Ordering;
 use std::marker::Model;
 
+/// The most bytes that have no memory of their own.
+const SHORT: usize = 23;
+
+/// Bytes: a few are held in place, with their number; more have memory of their own.
+#[derive(Debug, Drop)]
+enum Bytes {
+    Short(u8, [u8; SHORT]),
+    Long(Vec<u8>),
+}
+
 /// Any bytes. A clause sees their list and no buffer, so two that hold the same bytes are equal.
 #[derive(Debug)]
 pub struct ByteString {
-    items: Vec<u8>,
+    bytes: Bytes,
 }
 
 impl Drop for ByteString {
     fn drop(self) {
-        let ByteString { items: _ } = self;
+        let ByteString { bytes: _ } = self;
     }
 }
 
 impl Model for ByteString {
     ghost Value = { List ℕ };
 
-    ghost view = { λ b. b.items.items };
+    ghost view = { λ b. list_of b.bytes };
+
+    ghost invariant = { λ b. IsWithin b.bytes };
+}
+
+/// Holds a few bytes.
+fn short(bytes: &[u8]) -> Bytes
+    requires { length bytes.now ≤ 23 }
+    ensures bytes { list_of result ≡ bytes.now }
+    ensures within { IsWithin result }
+{
+    let mut held = [0_u8; SHORT];
+    held[..bytes.len()].copy_from_slice(bytes);
+    Bytes::Short(bytes.len() as u8, held)
 }
 
 impl ByteString {
-    /// Makes the byte string of these bytes, which are moved and not copied.
+    /// Makes the byte string of these bytes, which are moved, and copied only if they are a few.
     pub fn new(items: Vec<u8>) -> Self
         ensures { result ≡ items.items }
     {
-        ByteString { items }
+        let bytes = if items.len() <= SHORT {
+            short(items.as_slice())
+        } else {
+            Bytes::Long(items)
+        };
+        ByteString { bytes }
     }
 
     /// Makes a copy of these bytes.
@@ -47,23 +76,22 @@ impl ByteString {
     pub fn from_slice(alloc: Global, bytes: &[u8]) -> Result<Self, AllocError>
         ensures { IfOk result (λ copy. copy ≡ bytes.now) }
     {
-        let items = Vec::from_slice(alloc, bytes)?;
-        Ok(ByteString { items })
+        let bytes = if bytes.len() <= SHORT {
+            short(bytes)
+        } else {
+            Bytes::Long(Vec::from_slice(alloc, bytes)?)
+        };
+        Ok(ByteString { bytes })
     }
 
     /// Gives the bytes, lent out.
     pub fn as_slice(&self) -> &[u8]
         ensures { result.now ≡ self.now }
     {
-        self.items.as_slice()
-    }
-
-    /// Gives the bytes themselves, which are moved and not copied.
-    pub fn into_vec(self) -> Vec<u8>
-        ensures { result.items ≡ self }
-    {
-        let ByteString { items } = self;
-        items
+        match &self.bytes {
+            Bytes::Short(count, held) => &held[..*count as usize],
+            Bytes::Long(items) => items.as_slice(),
+        }
     }
 }
 
@@ -71,9 +99,11 @@ impl Clone for ByteString {
     ghost is_clone = { λ bytes copy. copy ≡ bytes };
 
     fn clone(&self) -> Result<Self, AllocError> {
-        Ok(ByteString {
-            items: self.items.clone()?,
-        })
+        let bytes = match &self.bytes {
+            Bytes::Short(count, held) => Bytes::Short(*count, *held),
+            Bytes::Long(items) => Bytes::Long(items.clone()?),
+        };
+        Ok(ByteString { bytes })
     }
 }
 
@@ -85,7 +115,7 @@ impl PartialEq for ByteString {
     ghost laws = { partial_equiv_from_equiv nat_list_eq_equiv };
 
     fn eq(&self, other: &Self) -> bool {
-        self.items == other.items
+        self.as_slice() == other.as_slice()
     }
 }
 
@@ -107,7 +137,7 @@ impl Ord for ByteString {
     ghost matches_eq = { texts_ties };
 
     fn cmp(&self, other: &Self) -> Ordering {
-        self.items.cmp(&other.items)
+        self.as_slice().cmp(other.as_slice())
     }
 }
 

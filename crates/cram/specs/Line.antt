@@ -11,11 +11,11 @@ is_blank b = (b == 32) || (b == 9)
 abbrev pub has_right_length : List ℕ → Bool
 has_right_length bytes = nat_lt 0 (length bytes) && nat_lt (length bytes) 256
 
--- a blank or a NUL
+-- a space or a NUL
 abbrev pub is_outside_names : ℕ → Bool
-is_outside_names b = is_blank b || (b == 0)
+is_outside_names b = (b == 32) || (b == 0)
 
--- 1 to 255 bytes, none of them a blank or a NUL
+-- 1 to 255 bytes, none of them a space or a NUL
 abbrev pub is_user_name : List ℕ → Bool
 is_user_name bytes = has_right_length bytes && not (list_any is_outside_names bytes)
 

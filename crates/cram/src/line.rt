@@ -81,18 +81,18 @@ fn parse_pair(line: &[u8]) -> ParsedLine<'_>
     }
 }
 
-/// Says whether a user may have the name: 1 to 255 bytes, none of them a space, a tab or a NUL.
+/// Says whether a user may have the name: 1 to 255 bytes, none of them a space or a NUL.
 pub fn is_user_name(bytes: &[u8]) -> bool
     ensures { result ≡ is_user_name bytes.now }
 {
     has_right_length(bytes) && !bytes.iter().any(|b| is_outside_names(*b))
 }
 
-/// Says whether the byte is a space, a tab or a NUL.
+/// Says whether the byte is a space or a NUL.
 fn is_outside_names(byte: u8) -> bool
     ensures { result ≡ is_outside_names byte }
 {
-    is_blank(byte) || byte == 0
+    byte == b' ' || byte == 0
 }
 
 // Whether a name or a password may have as many bytes.

@@ -95,8 +95,8 @@ impl Users {
 
     /// Reads a file of users: a line `[users]`, and behind it lines `name = password`. The blanks (spaces
     /// and tabs) round the first `=` are dropped. A name and a password have 1 to 255 bytes, and a name
-    /// has no blanks and stands once. Blank lines and lines that begin with `#` are skipped. A line ends
-    /// with LF or CRLF, the last one also with the file. A file without users is accepted. The faults are
+    /// has no space and no NUL, and stands once. Blank lines and lines that begin with `#` are skipped. A line
+    /// ends with LF or CRLF, the last one also with the file. A file without users is accepted. The faults are
     /// `BadUsers` and `NoMemory`. The time grows with the square of the number of users.
     pub fn read(alloc: Global, bytes: &[u8]) -> Result<Users, CramFault>
         ensures users { IfOk result (λ users.

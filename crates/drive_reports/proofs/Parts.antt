@@ -1,9 +1,9 @@
 -- What a graft shows beneath a path is a subtree of its own.
-use Rattle.std.proofs.Common.{◌≡◌, ◌<◌, arith, ℕ, Bool, true, false, cond, List, [], ◌∷◌, ◌++◌, length, drop, Option, Some, None, refl, sym, ap, ◌∙◌, option_map, subst}
+use Rattle.std.proofs.Common.{◌≡◌, ◌<◌, ◌+◌, arith, ℕ, Bool, true, false, cond, List, [], ◌∷◌, ◌++◌, length, drop, Option, Some, None, refl, sym, ap, ◌∙◌, option_map, subst}
 use Rattle.std.proofs.{lemmas.Bool.false≢true, lemmas.List.{append_assoc, append-nil}}
 use Rattle.std.specs.Prelude.{not, is_some, option_and_then, IfSome}
 use Rattle.svnpath.specs.{PathLaws.{rest_append, under_append, under_is}, Paths.{Component, is_at_or_under, PathValue}}
-use Rattle.repo_api.specs.{Kinds.kind_of, States.{RepoState, trees_in}, Trees.{is_directory, Tree}, declared.entry.Entry.Entry}
+use Rattle.repo_api.specs.{Kinds.kind_of, States.{RepoState, trees_in}, Trees.{is_directory, Tree}, declared.entry.{Entry.Entry, NodeKind.NodeKind}}
 use Rattle.drive_rules.specs.{Scopes.depth_below, declared.depth.Depth.Depth, declared.depth.Depth.TheVariants.{Empty, Files, Immediates, Infinity}}
 use Rattle.drive_rules.proofs.Entries.{under_more}
 use Rattle.drive_reports.specs.Places.{part_below, in_place, reported_subtree, IsPlacedAt, IsShownBy}
@@ -158,3 +158,25 @@ placed_by c top first grafts p g found by placed = record {
     if_placed : (f : ReportedPlace → Option ReportedEntry) (o : Option ReportedPlace) {x y : Option ReportedEntry} → x ≡ y → IfSome o (λ place. y ≡ f place) → IfSome o (λ place. x ≡ f place)
     if_placed f None e h = tt
     if_placed f (Some place) e h = e ∙ h
+
+entries_of : (s : Subtree) (from : PathValue) (depth : Depth) (o : Option Entry) → option_map (λ (h : ReportedEntry). h.entry) (option_map (reported_as s from depth None) o) ≡ o
+entries_of s from depth None = refl
+entries_of s from depth (Some e) = refl
+
+-- beneath the top of a graft that does not start empty its depth leaves what stands there
+pub deep_shows : (trees : ℕ → Tree) (g : Graft) (s : Subtree) (q : PathValue) (kind : NodeKind) → g.subtree ≡ Some s → is_at_or_under q g.path ≡ true → s.starts_empty ≡ false
+    → 0 < length (drop (length g.path) q)
+    → ((rest : List Component) → length (drop (length g.path) q) ≡ length rest + 1 → kind ≡ kind_of (left_by s.depth rest (trees s.revision (g.from ++ drop (length g.path) q))))
+    → kind ≡ kind_of (option_map (λ (h : ReportedEntry). h.entry) (shown_by trees q (Some g)))
+deep_shows trees g s q kind is under full more left =
+    beneath (drop (length g.path) q) more left
+    ∙ sym (ap (λ b. kind_of (option_map (λ (h : ReportedEntry). h.entry) (cond b (in_graft trees g (drop (length g.path) q)) None))) under
+    ∙ ap (λ o. kind_of (option_map (λ (h : ReportedEntry). h.entry) (option_and_then (λ (t : Subtree). in_subtree trees g.from t (drop (length g.path) q)) o))) is)
+  where
+    beneath : (r : List Component) → 0 < length r → ((rest : List Component) → length r ≡ length rest + 1 → kind ≡ kind_of (left_by s.depth rest (trees s.revision (g.from ++ r))))
+        → kind ≡ kind_of (option_map (λ (h : ReportedEntry). h.entry) (in_subtree trees g.from s r))
+    beneath [] h left = absurd (omega (h, arith))
+    beneath (c ∷ rest) h left =
+        left rest (omega arith)
+        ∙ sym (ap (λ b. kind_of (option_map (λ (h : ReportedEntry). h.entry) (cond b None (option_map (reported_as s (g.from ++ c ∷ rest) (depth_below s.depth) None) (left_by s.depth rest (trees s.revision (g.from ++ c ∷ rest))))))) full
+        ∙ ap kind_of (entries_of s (g.from ++ c ∷ rest) (depth_below s.depth) (left_by s.depth rest (trees s.revision (g.from ++ c ∷ rest)))))

@@ -1,6 +1,6 @@
 -- Which commands of an edit are refused.
 use Rattle.std.specs.Prelude.{ℕ, ◌-◌, Bool, true, false, not, ◌&&◌, ◌||◌, ◌==◌, nat_le, is_some, List, [], length, Option, Some, None, Result, Ok, Err}
-use Rattle.std.specs.{Prelude.{if◌then◌else◌, codes}, List.starts_with}
+use Rattle.std.specs.{Prelude.{if◌then◌else◌, codes}, List.starts_with, Str.str_eq_ignore_ascii_case}
 use Rattle.md5.specs.Md5.{md5}
 use Rattle.hex.specs.Hex.{encode_lower}
 use Rattle.svnpath.specs.{declared.component.TheConstants.DEPTH_LIMIT, Paths.PathValue, Texts.{joined, parsed, starts_with_slash}, Urls.path_of_text}
@@ -12,7 +12,6 @@ use Rattle.refusals.specs.{Refusing.path_refusal, declared.Refusal.Refusal}
 use Rattle.refusals.specs.declared.Refusal.TheVariants as refusals
 use Rattle.repo_api.specs.declared.entry.NodeKind.TheVariants as kinds
 use Rattle.svndiff0.specs.{Applying.fed, Document.{Reading, opening, going, broken, outcome}, declared.fault.DiffFault.DiffFault}
-use Rattle.wire_forms.specs.Forms.{is_name}
 use Rattle.wire_edits.specs.{declared.editing.EditorCommand.EditorCommand, declared.editing.EditorCommand.TheVariants.{TargetRevision, OpenRoot, DeleteEntry}}
 use Rattle.wire_edits.specs.declared.editing.EditorCommand.TheVariants.{AddDirectory, AddFile, OpenDirectory, OpenFile, AbsentDirectory, AbsentFile}
 use Rattle.wire_edits.specs.declared.editing.EditorCommand.TheVariants.{ChangeDirectoryProperty, ChangeFileProperty, ApplyTextDelta, TextDeltaChunk}
@@ -144,11 +143,11 @@ may_be_named name = is_property_name name && not (is_reserved name)
 abbrev pub name_refusal : List ℕ → Option Refusal
 name_refusal name = unless (may_be_named name) refusals.NotSupported
 
--- a checksum is the MD5 of a text, as hexadecimal digits
+-- a checksum is the MD5 of a text, as hexadecimal digits of either case
 abbrev pub checksum_refusal : Option (List ℕ) → List ℕ → Option Refusal
 checksum_refusal None text = None
 checksum_refusal (Some digits) text =
-    unless (is_name digits (encode_lower (md5 text))) refusals.ChecksumMismatch
+    unless (str_eq_ignore_ascii_case digits (encode_lower (md5 text))) refusals.ChecksumMismatch
 
 -- the document breaks a rule, whatever comes
 abbrev pub reading_refusal : Reading → Option Refusal

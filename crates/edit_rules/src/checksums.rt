@@ -1,8 +1,7 @@
 //! Checksums of texts.
-ghost use Rattle.std.specs.Prelude.{◌≡◌, IfOk};
+ghost use Rattle.std.specs.{Prelude.{◌≡◌, IfOk}, Str.str_eq_ignore_ascii_case};
 ghost use Rattle.hex.specs.Hex.{encode_lower};
 ghost use Rattle.md5.specs.Md5.{md5};
-ghost use Rattle.wire_forms.specs.Forms.{is_name};
 ghost use Rattle.edit_rules.specs.{Refusing.checksum_refusal, Judging.Judges};
 
 use crate::judging::judge;
@@ -28,10 +27,11 @@ pub fn judge_checksum(
     }
 }
 
-/// Says whether these are the digits of a text's MD5.
+/// Says whether these are the digits of a text's MD5, each in either case.
 fn is_checksum(alloc: Global, digits: &ByteString, text: &FileText) -> Result<bool, AllocError>
-    ensures { IfOk result (λ same. same ≡ is_name digits.now (encode_lower (md5 text.now))) }
+    ensures { IfOk result (λ same. same
+        ≡ str_eq_ignore_ascii_case digits.now (encode_lower (md5 text.now))) }
 {
     let right = text.digest_text(alloc)?;
-    Ok(digits.as_slice() == right.as_slice())
+    Ok(digits.as_slice().eq_ignore_ascii_case(right.as_slice()))
 }

@@ -55,11 +55,11 @@ impl<'r, F: Filed, S: Store, J: Naming, W: Wait> Changes<ServedSeat<F, J>>
         self.repository.unlock(self.rt, seat, ask)
     }
 
-    fn change_property(
+    fn set_rev_prop(
         &mut self,
         seat: &mut ServedSeat<F, J>,
         ask: PropertyAsk,
     ) -> Result<(), ChangeFault> {
-        self.repository.change_property(self.rt, seat, ask)
+        self.repository.set_rev_prop(self.rt, seat, ask)
     }
 }

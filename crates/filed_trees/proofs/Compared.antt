@@ -11,7 +11,7 @@ use Rattle.fsfs_reading.specs.declared.piece.FilePiece.{FilePiece}
 use Rattle.filed_trees.specs.{Pieces.{RevisionBytes, piece_in, path_in, properties_in}, Changes.ChangeRows}
 use Rattle.filed_trees.specs.{Trees.{own_from, own_at, own_below, own_in, first_id}, Tables.{placed_in, placed_of, IsFiled, IsPlaced}}
 use Rattle.filed_trees.specs.Comparing.{AreFor, HasContent, IsEarlier, IsOfLast, WasFiled, earlier_own, revision_in, tables_of}
-use Rattle.filed_trees.specs.{declared.places.Earlier.Earlier, declared.places.Places.Places, declared.table.Placed.Placed, declared.table.Table.Table}
+use Rattle.filed_trees.specs.{declared.places.Earlier.Earlier, declared.places.Places.Places, declared.placed.Placed.Placed, declared.table.Table.Table}
 use Rattle.filed_trees.proofs.Growing.{own_earlier}
 
 same_number : (n : ℕ) → (n == n) ≡ true

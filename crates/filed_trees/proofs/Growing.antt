@@ -14,7 +14,7 @@ use Rattle.fsfs_parts.specs.declared.change.FileChange.{FileChange}
 use Rattle.fsfs_reading.specs.{Pieces.revision_of, declared.piece.FilePiece.FilePiece}
 use Rattle.filed_trees.specs.Pieces.{RevisionBytes, piece_in, body_at_line, text_in, properties_in, entries_at, entries_by, entry_named, content_by, path_in}
 use Rattle.filed_trees.specs.{Changes.{ChangeRows, revision_in, changes_by, changes_in}, Trees.{own_from, own_at, own_below, own_in, first_id, root_in}}
-use Rattle.filed_trees.specs.{Tables.{placed_in, IsAt, IsFiled, IsPlaced, AreTabled, HasRows}, declared.table.Placed.Placed, declared.table.Table.Table}
+use Rattle.filed_trees.specs.{Tables.{placed_in, IsAt, IsFiled, IsPlaced, AreTabled, HasRows}, declared.placed.Placed.Placed, declared.table.Table.Table}
 use Rattle.noderevs.proofs.Pushing.{last_place, other_place}
 
 -- ---- lists with one more

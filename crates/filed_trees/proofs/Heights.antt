@@ -19,7 +19,7 @@ use Rattle.fsfs_reading.specs.{Pieces.{is_before, revision_of}, declared.piece.F
 use Rattle.filed_trees.specs.Comparing.{HaveHeights, IsOfLast, IsHere}
 use Rattle.filed_trees.specs.Pieces.{RevisionBytes, body_at_line, entries_at, entries_by, entries_in, entry_named, piece_in}
 use Rattle.filed_trees.specs.Readable.{AreReadable, IsReadable, IsTabled, kind_before, text_before, IsKept}
-use Rattle.filed_trees.specs.{Tables.{AreTabled, HasRows, IsAt, IsFiled, IsPlaced, placed_in}, declared.table.Placed.Placed, declared.table.Table.Table}
+use Rattle.filed_trees.specs.{Tables.{AreTabled, HasRows, IsAt, IsFiled, IsPlaced, placed_in}, declared.placed.Placed.Placed, declared.table.Table.Table}
 use Rattle.filed_trees.proofs.{Growing.{filed_more_files, last_file, last_revision}, OneRepository.{of_revision, piece_at_place, rising}}
 use Rattle.filed_trees.proofs.{Read.{LieBefore, entries_lie_before, pieces_of_last}, Rows.forwards}
 

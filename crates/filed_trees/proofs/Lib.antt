@@ -15,3 +15,6 @@ pub mod OneRepository
 mod Heights
 pub mod Seen
 pub mod States
+mod InOrder
+mod Said
+mod Sought

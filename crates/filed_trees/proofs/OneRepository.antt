@@ -12,7 +12,7 @@ use Rattle.fsfs_parts.specs.declared.change.FileChange.{FileChange}
 use Rattle.fsfs_reading.specs.{Pieces.revision_of, declared.piece.FilePiece.FilePiece}
 use Rattle.filed_trees.specs.{Pieces.{RevisionBytes, content_in, entries_in, entry_named, path_in, properties_in}, Changes.revision_in}
 use Rattle.filed_trees.specs.{Comparing.{AreSame, IsSameNode}, Tables.{AreTabled, HasRows, IsAt, IsFiled, IsPlaced, placed_in, placed_of}}
-use Rattle.filed_trees.specs.{Values.AreSameRevisions, declared.table.Placed.Placed, declared.table.Table.Table}
+use Rattle.filed_trees.specs.{Values.AreSameRevisions, declared.placed.Placed.Placed, declared.table.Table.Table}
 use Rattle.filed_trees.specs.Readable.{AreEntries, IsOneOf, IsReadable, IsReadableFile, IsTabled}
 use Rattle.filed_trees.specs.Trees as trees
 use Rattle.filed_trees.proofs.{Read.offsets_fall, Rows.forwards}

@@ -9,7 +9,7 @@ use Rattle.noderevs.specs.{declared.node_rev.NodeRev.NodeRev, declared.nodes.Nod
 use Rattle.fsfs_parts.specs.declared.change.FileChange.{FileChange}
 use Rattle.fsfs_reading.specs.{Pieces.revision_of, declared.piece.FilePiece.FilePiece}
 use Rattle.filed_trees.specs.{Pieces.{RevisionBytes, entry_named}, Changes.{ChangeRows, changes_by}, Comparing.{AreForAll, AreNew, AreSame, IsSameNode}}
-use Rattle.filed_trees.specs.{Tables.{AreTabled, HasRows, IsAt, IsFiled, IsPlaced, placed_in}, declared.table.Placed.Placed, declared.table.Table.Table}
+use Rattle.filed_trees.specs.{Tables.{AreTabled, HasRows, IsAt, IsFiled, IsPlaced, placed_in}, declared.placed.Placed.Placed, declared.table.Table.Table}
 use Rattle.filed_trees.specs.Trees as trees
 use Rattle.filed_trees.proofs.{Growing.{last_changes, last_file, last_revision, last_root, length_more, old_placed, tabled_more}, Read.pieces_of_last}
 use Rattle.noderevs.proofs.Pushing.{last_place, other_place}

@@ -10,7 +10,7 @@ use Rattle.noderevs.specs.{declared.node_rev.NodeId.NodeId, declared.node_rev.No
 use Rattle.fsfs_ids.specs.declared.id.FileId.{FileId}
 use Rattle.filed_trees.specs.{Pieces.RevisionBytes, Changes.{revision_in, changes_in}, StandsFor.IsRevision}
 use Rattle.filed_trees.specs.{Trees.{entry_in, kid_of, find_in, tree_in, root_in}, Tables.{placed_in, IsAt, IsFiled, IsPlaced, AreTabled}}
-use Rattle.filed_trees.specs.{declared.table.Placed.Placed, declared.table.Table.Table}
+use Rattle.filed_trees.specs.{declared.placed.Placed.Placed, declared.table.Table.Table}
 
 module _ (files : RevisionBytes) (tables : List Table) where
   same_entry : (id : NodeId) (node : NodeRev) (placed : Placed) → IsFiled files tables id node placed

@@ -1,5 +1,5 @@
 -- The changes of a revision, by its file.
-use Rattle.std.specs.{Prelude.{ℕ, List, [], ◌∷◌, Option, Some, None, option_map, slice_get}, BTreeMap.insert_entry, Result.result_ok}
+use Rattle.std.specs.{Prelude.{ℕ, List, [], ◌∷◌, ◌++◌, Option, Some, None, option_map, slice_get}, BTreeMap.insert_entry, Result.result_ok}
 use Rattle.svnpath.specs.{Paths.{path_cmp, PathValue}, Texts.parsed}
 use Rattle.repo_api.specs.{declared.change.Action.Action, declared.change.Change.Change, declared.change.Source.Source}
 use Rattle.repo_api.specs.declared.change.Action.TheVariants as actions
@@ -58,6 +58,16 @@ with_changes rows (c ∷ cs) =
 -- the changes that lines say, in whatever order they stand
 abbrev pub changes_by : List FileChange → Option ChangeRows
 changes_by cs = with_changes [] cs
+
+-- the changes that lines say, as they stand, after others
+abbrev pub with_lines : ChangeRows → List FileChange → Option ChangeRows
+with_lines rows [] = Some rows
+with_lines rows (c ∷ cs) = change_in c >>= λ p. with_lines (rows ++ p ∷ []) cs
+
+-- changes one after another, each put in its place
+abbrev pub with_rows : ChangeRows → ChangeRows → Option ChangeRows
+with_rows rows [] = Some rows
+with_rows rows (p ∷ ps) = with_change rows p >>= λ more. with_rows more ps
 
 -- what the file of a revision says: its node revisions and its changed paths
 unfoldable pub revision_in : RevisionBytes → ℕ → Option (List FilePiece × List FileChange)

@@ -146,7 +146,7 @@ AreOfLast files places rows = All (λ row. IsOfLast files (revision_in places) r
 -- this holds whatever the files are, the last of which is read
 abbrev pub ForFiles : Reading → (RevisionBytes → Type 0) → Type 0
 ForFiles reading P =
-    (files : RevisionBytes) → AreFor files reading.places reading.changes.now.entries → P files
+    (files : RevisionBytes) → AreFor files reading.places reading.changes.now → P files
 
 -- a node of the last revision is what a node revision says
 abbrev pub IsReadFrom : RevisionBytes → Places → FilePiece → NodeRev → Type 0

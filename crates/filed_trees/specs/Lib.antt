@@ -1,6 +1,7 @@
 pub mod Pieces
 pub mod Changes
 pub mod Trees
+pub mod Placing
 pub mod Tables
 pub mod StandsFor
 pub mod Comparing

@@ -15,7 +15,7 @@ use Rattle.repostore.specs.Reading.{IfFileFaulty}
 use Rattle.filed_trees.specs.{Pieces.{RevisionBytes, piece_in, entry_named, path_in}, Changes.changes_by, Trees.first_id}
 use Rattle.filed_trees.specs.{Comparing.{earlier_text, earlier_properties, tables_of}, declared.body.Body.Body}
 use Rattle.filed_trees.specs.{declared.body.Body.TheVariants.{Empty, New, Kept}, declared.places.Earlier.Earlier, declared.places.Places.Places}
-use Rattle.filed_trees.specs.{declared.table.Placed.Placed, declared.table.Table.Table}
+use Rattle.filed_trees.specs.{declared.placed.Placed.Placed, declared.table.Table.Table}
 
 -- something is answered only where this holds, and a fault of the file only where it does not
 abbrev pub Judges : {T : Type 0} → Result T FileFault → Type 0 → Type 0

@@ -9,7 +9,7 @@ use Rattle.fsfs_ids.specs.{declared.id.FileId.FileId, declared.place.Place.Place
 use Rattle.fsfs_nodes.specs.{declared.entries.DirectoryEntry.DirectoryEntry, declared.node.FileNode.FileNode}
 use Rattle.fsfs_reading.specs.declared.piece.FilePiece.{FilePiece}
 use Rattle.filed_trees.specs.{Pieces.{RevisionBytes, piece_in, content_in, properties_in, entries_in, entry_named, path_in}, Changes.{changes_in, revision_in}}
-use Rattle.filed_trees.specs.{Trees.own_in, declared.table.Placed.Placed, declared.table.Table.Table}
+use Rattle.filed_trees.specs.{Trees.own_in, declared.placed.Placed.Placed, declared.table.Table.Table}
 use Rattle.filed_trees.specs.Trees as files_trees
 
 -- the root of the copy that a node revision is of: its own place, where no line says another

@@ -1,6 +1,7 @@
 //! The nodes of a revision, read from its file.
-ghost use Rattle.std.specs.Prelude.{◌≡◌, ◌++◌, ◌∷◌, [], ℕ, List, Option, Some, None, Ok, All, length, map, reverse, is_some, if◌then◌else◌, IfOk};
-ghost use Rattle.std.specs.Arc.{arc_value};
+ghost use Rattle.std.specs.Prelude.{Decides, ◌≡◌, ◌++◌, ◌∷◌, [], ℕ, List, Option, Some, None, Ok, All, length, map, reverse, is_some, if◌then◌else◌, IfOk};
+ghost use Rattle.std.specs.{Arc.arc_value, List.Sorted.IsStrictlySortedBy, Map.keys_of};
+ghost use Rattle.svnpath.specs.Paths.{path_cmp};
 ghost use Rattle.repo_api.specs.States.{ChangeMap};
 ghost use Rattle.repo_api.specs.declared.entry.Mark.TheVariants as marks;
 ghost use Rattle.noderevs.specs.{Heights.{AreHigh, IsHeight}, Held.{blocks_of, node_at}, Nodes.{mark_of, with_block}};
@@ -14,7 +15,7 @@ ghost use Rattle.filed_trees.specs.{Comparing.tables_of, Readable.{AreReadable, 
 ghost use Rattle.filed_trees.specs.{Readable.{IsReadableSoFar, IsRightContent, IsRightText, IsTabled, Judges, ReadsWhere}, Values.BehindFiles};
 
 use crate::body::{Body, body_of};
-use crate::changes::{changes_by_path, note_order, read_path};
+use crate::changes::{change_at, changes_by_path, read_path};
 use crate::entries::{is_directory, read_kids, same_kids};
 use crate::places::{Earlier, Places, earlier_properties, earlier_text, find_earlier, node_of};
 use crate::table::{Table, table_of};
@@ -28,7 +29,6 @@ use repo_api::{Change, Content, FileText, Properties};
 use revision_data::ChangeList;
 use shared_map::SharedMap;
 use std::alloc::{AllocError, Global};
-use std::collections::BTreeMap;
 use std::sync::Arc;
 use svnpath::Path;
 
@@ -38,7 +38,8 @@ use svnpath::Path;
 struct Reading<'a> {
     alloc: Global,
     places: Places<'a>,
-    changes: &'a BTreeMap<Path, Change>,
+    changes: &'a [(Path, Change)],
+    none: &'a Arc<Properties>,
 }
 
 /// Makes the content of a file with this text, which is shared.
@@ -63,6 +64,39 @@ fn text_before(earlier: Option<Earlier<'_>>) -> Result<Arc<Content>, FileFault>
             Ok(Arc::try_clone(&earlier.node.content)?)
         }
         _ => Err(FileFault::Dangling),
+    }
+}
+
+/// Shares the content of the predecessor, if it is a directory, or makes that of one.
+fn directory_like(alloc: Global, earlier: Option<Earlier<'_>>) -> Result<Arc<Content>, AllocError>
+    ensures { IfOk result (λ content. arc_value content ≡ Content.Directory) }
+{
+    match earlier {
+        Some(earlier) if is_directory(earlier.node) => Ok(Arc::try_clone(&earlier.node.content)?),
+        _ => Ok(Arc::new(alloc, Content::Directory)?),
+    }
+}
+
+/// Says whether there are no properties.
+fn are_none(properties: &Properties) -> bool
+    ensures { Decides result (properties.now ≡ []) }
+{
+    properties.iter().next().is_none()
+}
+
+/// Shares the properties of the predecessor, if it has none, or else these, which are none.
+fn none_like(
+    none: &Arc<Properties>,
+    earlier: Option<Earlier<'_>>,
+) -> Result<Arc<Properties>, AllocError>
+    requires { arc_value none.now ≡ [] }
+    ensures { IfOk result (λ properties. arc_value properties ≡ []) }
+{
+    match earlier {
+        Some(earlier) if are_none(&earlier.node.properties) => {
+            Ok(Arc::try_clone(&earlier.node.properties)?)
+        }
+        _ => Ok(Arc::try_clone(none)?),
     }
 }
 
@@ -123,7 +157,7 @@ impl Reading<'_> {
         match piece.node.kind {
             EntryKind::File => Ok((self.text(body, earlier)?, SharedMap::new(self.alloc))),
             EntryKind::Directory => {
-                let content = Arc::new(self.alloc, Content::Directory)?;
+                let content = directory_like(self.alloc, earlier)?;
                 Ok((content, self.kids(body, earlier)?))
             }
         }
@@ -135,6 +169,7 @@ impl Reading<'_> {
         piece: &FilePiece,
         earlier: Option<Earlier<'_>>,
     ) -> Result<Arc<Properties>, FileFault>
+        requires { arc_value self.none.now ≡ [] }
         ensures properties { IfOk result (λ properties. IfCame self.entry.places earlier.entry
             piece.now.node.properties piece.now.properties (λ files.
             properties_in files piece.now.node.properties ≡ Some (arc_value properties))) }
@@ -144,7 +179,7 @@ impl Reading<'_> {
         let line = piece.node.properties;
         let kept = earlier_properties(earlier);
         match body_of(self.revision(), line, &piece.properties, kept)? {
-            Body::Empty => Ok(Arc::new(self.alloc, Properties::new(self.alloc))?),
+            Body::Empty => Ok(none_like(self.none, earlier)?),
             Body::New(dump) => Ok(Arc::new(
                 self.alloc,
                 read_properties(self.alloc, dump.as_slice())?,
@@ -158,16 +193,22 @@ impl Reading<'_> {
 
     /// Says where a node itself was last changed: here, where its path is listed as changed or there is
     /// no predecessor, else where the predecessor was.
-    fn own(self, path: &Path, earlier: Option<Earlier<'_>>) -> Result<Made, AllocError>
+    fn own(
+        self,
+        path: &Path,
+        is_changed: bool,
+        earlier: Option<Earlier<'_>>,
+    ) -> Result<Made, AllocError>
+        requires { is_changed ≡ is_some (found self.changes.now path.now) }
         ensures { IfOk result (λ own. (predecessor : Option FileId)
             → IsEarlier self.entry.places predecessor earlier.entry
             → own_from (λ _. earlier_own earlier.entry)
             (marks.Made (revision_in self.entry.places) path.now)
-            (if is_some (found self.entry.changes.now.entries path.now) then None else predecessor)
+            (if is_some (found self.entry.changes.now path.now) then None else predecessor)
             ≡ Some (mark_of own)) }
     {
         match earlier {
-            Some(earlier) if self.changes.get(path).is_none() => Ok(Made {
+            Some(earlier) if !is_changed => Ok(Made {
                 rev: earlier.node.own.rev,
                 path: earlier.node.own.path.clone()?,
             }),
@@ -178,8 +219,23 @@ impl Reading<'_> {
         }
     }
 
+    /// Shares the path of the change at a path, if there is one, and says whether there is.
+    fn shared_path(self, path: Path) -> Result<(Path, bool), AllocError>
+        requires { IsStrictlySortedBy path_cmp (keys_of self.changes.now) }
+        ensures path { IfOk result (λ shared. shared.0 ≡ path) }
+        ensures changed { IfOk result (λ shared. shared.1
+            ≡ is_some (found self.entry.changes.now shared.0)) }
+    {
+        match change_at(self.changes, &path) {
+            Some(change) => Ok((change.0.clone()?, true)),
+            None => Ok((path, false)),
+        }
+    }
+
     /// Reads a node, whose entries are nodes of earlier revisions or of this one.
     fn node(self, piece: &FilePiece, block: &[NodeRev]) -> Result<NodeRev, FileFault>
+        requires none { arc_value self.none.now ≡ [] }
+        requires sorted { IsStrictlySortedBy path_cmp (keys_of self.changes.now) }
         ensures read { ForFiles self.entry (λ files.
             IsOfLast files (revision_in self.entry.places) piece.now
             → ReadsWhere result (IsReadableSoFar files self.entry.places piece.now)
@@ -188,9 +244,10 @@ impl Reading<'_> {
             (node_at self.entry.places.nodes.now) (revision_in self.entry.places) block.now)
             node.kids node.height) }
     {
-        let path = read_path(self.alloc, &piece.node.path)?;
+        let read = read_path(self.alloc, &piece.node.path)?;
+        let (path, is_changed) = self.shared_path(read)?;
         let earlier = find_earlier(self.places, piece.node.predecessor)?;
-        let own = self.own(&path, earlier)?;
+        let own = self.own(&path, is_changed, earlier)?;
         let properties = self.properties(piece, earlier)?;
         let (content, kids) = self.content(piece, earlier)?;
         let height = self
@@ -220,6 +277,8 @@ impl Reading<'_> {
 
     /// Reads all nodes, in the order of their offsets.
     fn nodes(self, rows: &[&FilePiece]) -> Result<Vec<NodeRev>, FileFault>
+        requires none { arc_value self.none.now ≡ [] }
+        requires sorted { IsStrictlySortedBy path_cmp (keys_of self.changes.now) }
         ensures long { IfOk result (λ nodes. length nodes.items ≡ length rows.now) }
         ensures heights { IfOk result (λ nodes. HaveHeights (node_at self.entry.places.nodes.now)
             (revision_in self.entry.places) nodes.items) }
@@ -228,7 +287,7 @@ impl Reading<'_> {
             (All (λ row. IsReadableSoFar files self.entry.places row.now) rows.now)
             (λ nodes. AreReadFrom files self.entry.places rows.now nodes.items)) }
     {
-        let mut nodes = Vec::new(self.alloc);
+        let mut nodes = Vec::with_capacity(self.alloc, rows.len())?;
         for row in rows {
             let node = self.node(row, nodes.as_slice())?;
             nodes.push(node)?;
@@ -238,6 +297,8 @@ impl Reading<'_> {
 
     /// Reads the block of all nodes.
     fn block(self, rows: &[&FilePiece], first: Option<&FilePiece>) -> Result<Block, FileFault>
+        requires none { arc_value self.none.now ≡ [] }
+        requires sorted { IsStrictlySortedBy path_cmp (keys_of self.changes.now) }
         ensures root { IfOk result (λ block. IsRoot self.entry.places first.entry block.root) }
         ensures heights { IfOk result (λ block. HaveHeights (node_at self.entry.places.nodes.now)
             (revision_in self.entry.places) block.nodes.items) }
@@ -256,7 +317,7 @@ impl Reading<'_> {
 fn by_offset(alloc: Global, pieces: &[FilePiece]) -> Result<Vec<&FilePiece>, AllocError>
     ensures { IfOk result (λ rows. map (λ row. row.now) rows.items ≡ reverse pieces.now) }
 {
-    let mut rows = Vec::new(alloc);
+    let mut rows = Vec::with_capacity(alloc, pieces.len())?;
     for k in 0..pieces.len() {
         rows.push(&pieces[pieces.len() - 1 - k])?;
     }
@@ -268,19 +329,21 @@ fn read_block<'a>(
     alloc: Global,
     nodes: &'a Nodes,
     tables: &'a PVec<Table>,
-    changes: &'a BTreeMap<Path, Change>,
+    changes: &'a [(Path, Change)],
     pieces: &'a [FilePiece],
 ) -> Result<(Block, Table), FileFault>
+    requires { IsStrictlySortedBy path_cmp (keys_of changes.now) }
     ensures read { (files : RevisionBytes)
-        → AreForAll files nodes.now tables.now changes.now.entries pieces.now
+        → AreForAll files nodes.now tables.now changes.now pieces.now
         → ReadsWhere result (AreReadable files tables.now pieces.now)
         (λ read. AreNew files tables.now read.0 read.1 pieces.now) }
     ensures rows { IfOk result (λ read. HasRows pieces.now read.1) }
     ensures heights { IfOk result (λ read. HaveHeights (node_at nodes.now) (length tables.now)
         read.0.nodes.items) }
 {
+    let none = Arc::new(alloc, Properties::new(alloc))?;
     let rows = by_offset(alloc, pieces)?;
-    let table = table_of(alloc, rows.as_slice())?;
+    let table = table_of(alloc, tables, rows.as_slice())?;
     let places = Places {
         nodes,
         tables,
@@ -290,6 +353,7 @@ fn read_block<'a>(
         alloc,
         places,
         changes,
+        none: &none,
     };
     match reading.block(rows.as_slice(), pieces.first()) {
         Ok(block) => Ok((block, table)),
@@ -335,16 +399,18 @@ pub fn read_next<'a>(
         file.now.changes.items)) }
 {
     let changes = changes_by_path(alloc, file.changes.as_slice())?;
-    note_order(&changes);
-    match read_block(alloc, nodes, tables, &changes, file.pieces.as_slice()) {
-        Ok((block, table)) => {
-            let changes = ChangeList::from_map(alloc, changes)?;
-            Ok(ReadRevision {
-                block,
-                table,
-                changes,
-            })
-        }
+    match read_block(
+        alloc,
+        nodes,
+        tables,
+        changes.as_slice(),
+        file.pieces.as_slice(),
+    ) {
+        Ok((block, table)) => Ok(ReadRevision {
+            block,
+            table,
+            changes: ChangeList::from_sorted(changes),
+        }),
         Err(fault) => {
             std::mem::drop(changes);
             Err(fault)

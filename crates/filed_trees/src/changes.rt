@@ -1,7 +1,9 @@
 //! The changes that a revision's file says.
-ghost use Rattle.std.specs.{Prelude.{◌≡◌, true, IfOk, Some, IsSome, Decides}, List.Sorted.IsStrictlySortedBy, Map.keys_of, Result.result_ok};
+ghost use Rattle.std.specs.Prelude.{◌≡◌, true, [], IfOk, Some, IsSome, Decides, option_copied, option_map};
+ghost use Rattle.std.specs.{List.Sorted.IsStrictlySortedBy, Map.keys_of, Ordering.is_lt, Result.result_ok};
 ghost use Rattle.svnpath.specs.{Paths.path_cmp, Texts.parsed};
-ghost use Rattle.filed_trees.specs.{Changes.{action_in, source_in, change_in, changes_by}, Readable.{Judges, Reads}};
+ghost use Rattle.revision_data.specs.Found.{found};
+ghost use Rattle.filed_trees.specs.{Changes.{action_in, source_in, change_in, changes_by, with_lines, with_rows}, Readable.{Judges, Reads}};
 
 use byte_string::ByteString;
 use fsfs_ids::Place;
@@ -9,7 +11,7 @@ use fsfs_lines::FileFault;
 use fsfs_parts::{FileAction, FileChange};
 use repo_api::{Action, Change, Source};
 use std::alloc::Global;
-use std::collections::BTreeMap;
+use std::cmp::Ordering;
 use svnpath::{Path, PathFault};
 
 /// Reads a path.
@@ -65,7 +67,54 @@ fn read_change(alloc: Global, change: &FileChange) -> Result<(Path, Change), Fil
     Ok((path, made))
 }
 
-/// Gives the changes by their paths.
+/// Reads the changes, as they stand.
+///
+/// # Errors
+///
+/// `BadLine` where a path is none; `NoMemory`.
+fn read_changes(alloc: Global, changes: &[FileChange]) -> Result<Vec<(Path, Change)>, FileFault>
+    ensures read { IfOk result (λ list. with_lines [] changes.now ≡ Some list.items) }
+    ensures judges { Judges result (IsSome (with_lines [] changes.now)) }
+{
+    let mut list = Vec::with_capacity(alloc, changes.len())?;
+    for change in changes {
+        list.push(read_change(alloc, change)?)?;
+    }
+    Ok(list)
+}
+
+/// Says whether each path comes after the one before.
+fn are_rising(changes: &[(Path, Change)]) -> bool
+    ensures { Decides result (IsStrictlySortedBy path_cmp (keys_of changes.now)) }
+{
+    let is_before = |change: &(Path, Change), next: &(Path, Change)| -> bool
+        ensures { result ≡ is_lt (path_cmp change.now.0 next.now.0) }
+    { change.0 < next.0 };
+    changes.is_sorted_by(is_before)
+}
+
+/// Sorts changes by their paths.
+///
+/// # Errors
+///
+/// `BadLine` where a path is changed twice; `NoMemory`.
+fn in_order(mut changes: Vec<(Path, Change)>) -> Result<Vec<(Path, Change)>, FileFault>
+    ensures changes { IfOk result (λ list. with_rows [] changes.items ≡ Some list.items) }
+    ensures sorted { IfOk result (λ list. IsStrictlySortedBy path_cmp (keys_of list.items)) }
+    ensures judges { Judges result (IsSome (with_rows [] changes.items)) }
+{
+    let compare = |change: &(Path, Change), other: &(Path, Change)| -> Ordering
+        ensures { result ≡ path_cmp change.now.0 other.now.0 }
+    { change.0.cmp(&other.0) };
+    changes.sort_by(compare)?;
+    if are_rising(changes.as_slice()) {
+        Ok(changes)
+    } else {
+        Err(FileFault::BadLine)
+    }
+}
+
+/// Gives the changes in the order of their paths. Nothing is moved where they stand so.
 ///
 /// # Errors
 ///
@@ -73,26 +122,34 @@ fn read_change(alloc: Global, change: &FileChange) -> Result<(Path, Change), Fil
 pub fn changes_by_path(
     alloc: Global,
     changes: &[FileChange],
-) -> Result<BTreeMap<Path, Change>, FileFault>
-    ensures changes { IfOk result (λ map. changes_by changes.now ≡ Some map.entries) }
+) -> Result<Vec<(Path, Change)>, FileFault>
+    ensures changes { IfOk result (λ list. changes_by changes.now ≡ Some list.items) }
+    ensures sorted { IfOk result (λ list. IsStrictlySortedBy path_cmp (keys_of list.items)) }
     ensures judges { Judges result (IsSome (changes_by changes.now)) }
 {
-    let mut map = BTreeMap::new(alloc);
-    for change in changes {
-        let (path, made) = read_change(alloc, change)?;
-        if map.get(&path).is_some() {
-            return Err(FileFault::BadLine);
-        }
-        map.insert(path, made)?;
+    let list = read_changes(alloc, changes)?;
+    if are_rising(list.as_slice()) {
+        return Ok(list);
     }
-    Ok(map)
+    in_order(list)
 }
 
-/// Shows that changes are in the order of their paths.
-pub(crate) fn note_order(changes: &BTreeMap<Path, Change>)
-    ensures { IsStrictlySortedBy path_cmp (keys_of changes.now.entries) }
+/// Finds the change of a path, with the path, among changes in the order of their paths.
+pub(crate) fn change_at<'a>(
+    changes: &'a [(Path, Change)],
+    path: &Path,
+) -> Option<&'a (Path, Change)>
+    requires { IsStrictlySortedBy path_cmp (keys_of changes.now) }
+    ensures { option_copied result
+        ≡ option_map (λ change. (path.now, change)) (found changes.now path.now) }
 {
-    let _count = changes.len();
+    let compare = |change: &(Path, Change)| -> Ordering
+        ensures { result ≡ path_cmp change.now.0 path.entry.now }
+    { change.0.cmp(path) };
+    match changes.binary_search_by(compare) {
+        Ok(place) => Some(&changes[place]),
+        Err(_) => None,
+    }
 }
 
 /// Says whether two paths are the same.

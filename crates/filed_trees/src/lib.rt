@@ -9,6 +9,7 @@ mod content;
 mod entries;
 mod kids;
 mod laws;
+mod placed;
 mod places;
 mod table;
 mod tabulating;
@@ -21,5 +22,6 @@ pub use laws::{
     tabled_revisions_are_those_of_the_files, tabled_trees_are_those_of_the_files,
     what_comes_next_depends_on_what_nodes_have,
 };
-pub use table::{Placed, Table};
+pub use placed::Placed;
+pub use table::Table;
 pub use tabulating::{is_last_revision, tabulated};

@@ -3,7 +3,8 @@ ghost use Rattle.std.specs.Prelude.{◌≡◌, ◌≤◌, IfOk, IfSome, IsSomeAn
 ghost use Rattle.filed_trees.specs.{Comparing.{IsEarlier, earlier_text, earlier_properties, tables_of, AreFor}, Tables.IsAt};
 ghost use Rattle.filed_trees.specs.{Readable.{Finds, FindsOne, IsTabled, Judges}, Pieces.RevisionBytes, Changes.ChangeRows};
 
-use crate::table::{Placed, Table};
+use crate::placed::Placed;
+use crate::table::Table;
 use fsfs_ids::{FileId, Representation};
 use fsfs_lines::FileFault;
 use noderevs::{NodeId, NodeRev, Nodes};
@@ -40,7 +41,7 @@ fn first_from(placed: &[Placed], offset: u64) -> usize
     let mut high = placed.len();
     while low < high {
         let middle = low + (high - low) / 2;
-        if placed[middle].id.offset < offset {
+        if placed[middle].offset() < offset {
             low = middle + 1;
         } else {
             high = middle;
@@ -54,7 +55,7 @@ fn scanned(placed: &[Placed], id: FileId) -> Option<usize>
     ensures { FindsOne result (λ k. IsSomeAnd (slice_get placed.now k) (λ p. p.id ≡ id)) }
 {
     for k in 0..placed.len() {
-        if is_same_id(placed[k].id, id) {
+        if is_same_id(placed[k].id(), id) {
             return Some(k);
         }
     }
@@ -66,7 +67,7 @@ fn place_of(placed: &[Placed], id: FileId) -> Option<usize>
     ensures { FindsOne result (λ k. IsSomeAnd (slice_get placed.now k) (λ p. p.id ≡ id)) }
 {
     let place = first_from(placed, id.offset);
-    if place < placed.len() && is_same_id(placed[place].id, id) {
+    if place < placed.len() && is_same_id(placed[place].id(), id) {
         return Some(place);
     }
     scanned(placed, id)
@@ -137,12 +138,12 @@ fn earlier_of(places: Places<'_>, id: FileId) -> Option<Earlier<'_>>
 pub(crate) fn earlier_text(earlier: Option<Earlier<'_>>) -> Option<Representation>
     ensures { result ≡ earlier_text earlier.entry }
 {
-    earlier?.placed.text
+    earlier?.placed.text()
 }
 
 /// Gives the line of the properties of the predecessor.
 pub(crate) fn earlier_properties(earlier: Option<Earlier<'_>>) -> Option<Representation>
     ensures { result ≡ earlier_properties earlier.entry }
 {
-    earlier?.placed.properties
+    earlier?.placed.properties()
 }

@@ -1,21 +1,15 @@
 //! Where node revisions stand in files.
-ghost use Rattle.std.specs.Prelude.{◌≡◌, IfOk, map};
+ghost use Rattle.std.specs.{Prelude.{◌≡◌, Decides, IfOk, map}, Arc.arc_value};
 ghost use Rattle.filed_trees.specs.Tables.{placed_of};
 
-use fsfs_ids::{FileId, Place, Representation};
+use crate::placed::Placed;
+use byte_string::ByteString;
+use fsfs_ids::{FileId, Place};
 use fsfs_nodes::FileNode;
 use fsfs_reading::FilePiece;
+use pvec::PVec;
 use std::alloc::{AllocError, Global};
-
-/// Says where a node revision stands in the files, and keeps what files alone have of it.
-#[derive(Drop)]
-pub struct Placed {
-    pub id: FileId,
-    pub count: u64,
-    pub text: Option<Representation>,
-    pub properties: Option<Representation>,
-    pub copyroot: Place,
-}
+use std::sync::Arc;
 
 /// Says where the node revisions of a revision stand, by their places in its block.
 pub struct Table {
@@ -28,37 +22,77 @@ impl Drop for Table {
     }
 }
 
-/// Gives what a table keeps of a node revision.
-pub(crate) fn place(node: &FileNode) -> Result<Placed, AllocError>
-    ensures { IfOk result (λ placed. placed ≡ placed_of node.now) }
+/// Says whether a place is in this revision, at this path.
+fn is_place(place: &Place, revision: u32, path: &ByteString) -> bool
+    ensures { Decides result (place.now ≡ record { revision = revision; path = path.now }) }
 {
-    let copyroot = match &node.copyroot {
-        Some(place) => Place {
-            revision: place.revision,
-            path: place.path.clone()?,
-        },
-        None => Place {
-            revision: node.id.revision,
-            path: node.path.clone()?,
-        },
-    };
-    Ok(Placed {
-        id: node.id,
-        count: node.count,
-        text: node.text,
-        properties: node.properties,
-        copyroot,
-    })
+    place.revision == revision && place.path == *path
 }
 
-/// Gives the table of node revisions.
-pub(crate) fn table_of(alloc: Global, pieces: &[&FilePiece]) -> Result<Table, AllocError>
+/// Gives the root of the copy that a node revision is of. It is shared with another node revision that has the same.
+fn copyroot_of(
+    alloc: Global,
+    node: &FileNode,
+    other: Option<&Placed>,
+) -> Result<Arc<Place>, AllocError>
+    ensures { IfOk result (λ root. arc_value root ≡ (placed_of node.now).copyroot) }
+{
+    let (revision, path) = match &node.copyroot {
+        Some(place) => (place.revision, &place.path),
+        None => (node.id.revision, &node.path),
+    };
+    match other {
+        Some(other) if is_place(other.copyroot(), revision, path) => {
+            Arc::try_clone(other.copyroot())
+        }
+        _ => {
+            let path = path.clone()?;
+            Ok(Arc::new(alloc, Place { revision, path })?)
+        }
+    }
+}
+
+/// Gives what a table keeps of a node revision. The root of its copy is shared with another node revision's, if that is
+/// the same.
+fn place(alloc: Global, node: &FileNode, other: Option<&Placed>) -> Result<Placed, AllocError>
+    ensures { IfOk result (λ placed. placed ≡ placed_of node.now) }
+{
+    let copyroot = copyroot_of(alloc, node, other)?;
+    Placed::new(
+        alloc,
+        node.id,
+        node.count,
+        node.text,
+        node.properties,
+        copyroot,
+    )
+}
+
+/// Gives the table of node revisions. The tables are those of the revisions before.
+pub(crate) fn table_of(
+    alloc: Global,
+    tables: &PVec<Table>,
+    pieces: &[&FilePiece],
+) -> Result<Table, AllocError>
     ensures { IfOk result (λ table. table.placed.items
         ≡ map (λ p. placed_of p.now.node) pieces.now) }
 {
-    let mut placed = Vec::new(alloc);
+    let mut placed = Vec::with_capacity(alloc, pieces.len())?;
     for piece in pieces {
-        placed.push(place(&piece.node)?)?;
+        let made = {
+            let before: &Vec<Placed> = &placed;
+            let other = match before.last() {
+                Some(last) => Some(last),
+                None => placed_before(tables, piece.node.predecessor),
+            };
+            place(alloc, &piece.node, other)?
+        };
+        placed.push(made)?;
     }
     Ok(Table { placed })
+}
+
+/// Finds what is kept of the last node revision of the revision of a predecessor. Nothing that a clause says depends on it.
+fn placed_before(tables: &PVec<Table>, predecessor: Option<FileId>) -> Option<&Placed> {
+    tables.get(predecessor?.revision as usize)?.placed.last()
 }

@@ -26,13 +26,13 @@ impl Filed for FiledWorld {
     }
 
     fn locked(&self, ask: &LockAsk) -> Result<(Self, Vec<u8>), ChangeFault> {
-        let world = self.world.locked(ask)?;
+        let world = self.world.with_lock(ask)?;
         let made = self.with_locks(world)?;
         Ok(made)
     }
 
     fn unlocked(&self, ask: &UnlockAsk) -> Result<(Self, Vec<u8>), ChangeFault> {
-        let world = self.world.unlocked(ask)?;
+        let world = self.world.without_lock(ask)?;
         let made = self.with_locks(world)?;
         Ok(made)
     }
@@ -48,7 +48,7 @@ impl Filed for FiledWorld {
     }
 
     fn property_changed(&self, ask: &PropertyAsk) -> Result<(Self, NewProperties), ChangeFault> {
-        let world = self.world.property_changed(ask)?;
+        let world = self.world.with_rev_prop(ask)?;
         let made = self.with_properties(world, ask.revision)?;
         Ok(made)
     }

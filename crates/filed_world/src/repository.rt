@@ -131,8 +131,8 @@ impl Repository for FiledWorld {
         self.world.unlock(ask)
     }
 
-    fn change_property(&mut self, ask: PropertyAsk) -> Result<(), ChangeFault> {
-        self.world.change_property(ask)
+    fn set_rev_prop(&mut self, ask: PropertyAsk) -> Result<(), ChangeFault> {
+        self.world.set_rev_prop(ask)
     }
 
     fn release(

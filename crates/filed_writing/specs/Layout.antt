@@ -12,7 +12,7 @@ use Rattle.fsfs_ids.specs.{declared.id.FileId.FileId, declared.id.IdPart.IdPart}
 use Rattle.fsfs_nodes.specs.{declared.entries.DirectoryEntry.DirectoryEntry, declared.node.FileNode.FileNode}
 use Rattle.fsfs_parts.specs.declared.change.FileChange.{FileChange}
 use Rattle.fsfs_writing.specs.Files.{Piece, file_bytes, pieces_bytes}
-use Rattle.filed_trees.specs.{Tables.placed_in, declared.table.Placed.Placed}
+use Rattle.filed_trees.specs.{Tables.placed_in, declared.placed.Placed.Placed}
 use Rattle.filed_writing.specs.{Origins.{deleted_at, predecessor_of}, declared.counter.Counter.Counter, declared.revision.Revision.Revision}
 use Rattle.filed_writing.specs.Pieces.{Before, Brings, Comes, Copy, Writes, after_copy, after_node, all_some, any_new, begins, brings, copied, copy_before, copyroot_line, count_of, counted, counter_in, dump_in, entry_with, file_change, ids_after, ids_of, is_file, kind_of, later_copy, node_of, piece_by, properties_of, source_place, text_of_before, with_both}
 

@@ -15,7 +15,7 @@ use Rattle.fsfs_nodes.specs.{declared.entries.EntryKind.TheVariants.{File, Direc
 use Rattle.fsfs_parts.specs.{declared.change.FileAction.FileAction, declared.change.FileChange.FileChange}
 use Rattle.fsfs_parts.specs.declared.change.FileAction.TheVariants as actions
 use Rattle.fsfs_writing.specs.Files.{Piece, piece_bytes, placed_node}
-use Rattle.filed_trees.specs.{declared.table.Placed.Placed}
+use Rattle.filed_trees.specs.{declared.placed.Placed.Placed}
 use Rattle.filed_writing.specs.declared.counter.Counter.{Counter}
 
 -- an action puts something at its path

@@ -78,7 +78,7 @@ impl<'a> Revision<'a> {
     {
         let predecessor = self.made_from(node);
         let number = match predecessor {
-            Some(before) => before.placed.id.node,
+            Some(before) => before.placed.id().node,
             None => taken(next.revision, &mut next.node),
         };
         let copy = match copied(change_of(self.changes, node.path.components())) {
@@ -136,9 +136,11 @@ impl<'a> Revision<'a> {
             return begun(alloc, copy.id, self.number, node);
         }
         match (origin.predecessor, directory) {
-            (Some(before), Some(above)) if above.place.revision > before.placed.copyroot.revision =>
-                { copy_of(above.id, &above.place) }
-            (Some(before), _) => copy_of(before.placed.id.copy, &before.placed.copyroot),
+            (Some(before), Some(above))
+                if above.place.revision > before.placed.copyroot().revision => {
+                copy_of(above.id, &above.place)
+            }
+            (Some(before), _) => copy_of(before.placed.id().copy, before.placed.copyroot()),
             (None, Some(above)) => copy_of(above.id, &above.place),
             (None, None) => begun(alloc, FIRST_COPY, self.number, node),
         }

@@ -185,7 +185,7 @@ impl Repository for FlatRepo {
         unlock_shared(&mut self.locks, ask)
     }
 
-    fn change_property(&mut self, ask: PropertyAsk) -> Result<(), ChangeFault> {
+    fn set_rev_prop(&mut self, ask: PropertyAsk) -> Result<(), ChangeFault> {
         if let Some(refusal) = refusal_of(&self.content, &ask) {
             drop(ask);
             return Err(ChangeFault::Refused(refusal));

@@ -153,7 +153,7 @@ fn the_bytes_of_revision_0_are_those_of_a_new_repository(rt: HostRuntime) -> Res
         return Err(AllocError)?;
     };
     assert_eq!(rt; table.placed.len(), 1);
-    assert_eq!(rt; table.placed[0].id.offset, 17);
+    assert_eq!(rt; table.placed[0].offset(), 17);
     Ok(())
 }
 
@@ -164,8 +164,8 @@ fn the_bytes_of_revision_1_are_those_of_a_file_that_was_added(rt: HostRuntime) -
         return Err(AllocError)?;
     };
     assert_eq!(rt; table.placed.len(), 2);
-    assert_eq!(rt; table.placed[0].id.offset, 19);
-    assert_eq!(rt; table.placed[1].id.offset, 168);
+    assert_eq!(rt; table.placed[0].offset(), 19);
+    assert_eq!(rt; table.placed[1].offset(), 168);
     Ok(())
 }
 
@@ -212,7 +212,7 @@ fn a_kept_line_is_that_of_the_predecessor(rt: HostRuntime) -> Result<(), Fail> {
     let right = with_value(alloc, &nodes, b"v")?;
     let table = tabulated(alloc, &right, &tables, changes, REVISION_2)?;
     assert_eq!(rt; table.placed.len(), 2);
-    assert_eq!(rt; table.placed[0].count, 1);
+    assert_eq!(rt; table.placed[0].count(), 1);
     let other = with_value(alloc, &nodes, b"w")?;
     let fault = tabulated(alloc, &other, &tables, changes, REVISION_2);
     assert!(rt; matches!(fault, Err(FileFault::BadLine)));

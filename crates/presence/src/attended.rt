@@ -93,8 +93,8 @@ impl<A: RepoAccess + Drop, P: Presence> RepoAccess for AttendedAccess<A, P> {
         self.access.unlock(ask)
     }
 
-    fn change_property(&mut self, ask: PropertyAsk) -> Result<(), ChangeFault> {
-        self.access.change_property(ask)
+    fn set_rev_prop(&mut self, ask: PropertyAsk) -> Result<(), ChangeFault> {
+        self.access.set_rev_prop(ask)
     }
 }
 

@@ -164,8 +164,8 @@ impl<V: Repository, P: Presence> Repository for AttendedView<V, P> {
         self.view.unlock(ask)
     }
 
-    fn change_property(&mut self, ask: PropertyAsk) -> Result<(), ChangeFault> {
-        self.view.change_property(ask)
+    fn set_rev_prop(&mut self, ask: PropertyAsk) -> Result<(), ChangeFault> {
+        self.view.set_rev_prop(ask)
     }
 
     fn release(

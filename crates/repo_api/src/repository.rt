@@ -172,7 +172,7 @@ pub trait Repository: Drop {
 
     /// Makes this the value of a property of a revision, or takes the property out where there is no
     /// value, if the value before is the one that is asked for.
-    fn change_property(&mut self, ask: PropertyAsk) -> Result<(), ChangeFault>
+    fn set_rev_prop(&mut self, ask: PropertyAsk) -> Result<(), ChangeFault>
         ensures { MakesChange result (content self.old) (ChangesProperty ask) (content self.new) };
 
     /// Takes away each lock that is the user's and was handed in by its path and its token. One that was

@@ -1,5 +1,6 @@
 //! The changes of a revision as one list.
-ghost use Rattle.std.specs.{Prelude.{◌≡◌, IfOk}, FinMap.{empty, entries, from_entries}};
+ghost use Rattle.std.specs.{Prelude.{◌≡◌, IfOk}, FinMap.{empty, entries, from_entries}, List.Sorted.IsStrictlySortedBy, Map.keys_of};
+ghost use Rattle.svnpath.specs.Paths.{path_cmp};
 
 use crate::changes::copied_change;
 use repo_api::Change;
@@ -47,9 +48,19 @@ impl ChangeList {
     pub fn from_map(alloc: Global, changes: BTreeMap<Path, Change>) -> Result<Self, AllocError>
         ensures { IfOk result (λ list. list ≡ from_entries changes.entries) }
     {
-        Ok(ChangeList {
-            changes: changes.into_iter().collect::<Vec<_>>(alloc)?,
-        })
+        let mut list = Vec::with_capacity(alloc, changes.len())?;
+        for (path, change) in changes {
+            list.push((path, change))?;
+        }
+        Ok(ChangeList { changes: list })
+    }
+
+    /// Makes a list of changes in the order of their paths.
+    pub fn from_sorted(changes: Vec<(Path, Change)>) -> Self
+        requires { IsStrictlySortedBy path_cmp (keys_of changes.items) }
+        ensures { result ≡ from_entries changes.items }
+    {
+        ChangeList { changes }
     }
 
     /// Makes a list of the changes of a map, which has them still.
@@ -59,7 +70,7 @@ impl ChangeList {
     ) -> Result<Self, AllocError>
         ensures { IfOk result (λ list. list ≡ from_entries changes.now.entries) }
     {
-        let mut list = Vec::new(alloc);
+        let mut list = Vec::with_capacity(alloc, changes.len())?;
         for (path, change) in changes.iter() {
             list.push((path.clone()?, copied_change(change)?))?;
         }

@@ -140,7 +140,7 @@ pub fn unlock<
 
 /// Makes this the value of a property of a revision, or takes the property out where there is no value, if the
 /// value before is the one that is asked for.
-pub fn change_property<
+pub fn set_rev_prop<
     R: Repository,
     S: Archive<R>,
     J: Naming,

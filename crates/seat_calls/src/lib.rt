@@ -5,5 +5,5 @@ mod calls;
 mod changes;
 mod laws;
 
-pub use calls::{change_property, commit, lock, unlock};
+pub use calls::{commit, lock, set_rev_prop, unlock};
 pub use laws::a_stop_leaves_a_beginning;

@@ -30,7 +30,7 @@ fn change<A: RepoAccess>(
     value: &[u8],
     seen: &[u8],
 ) -> Result<(), ChangeFault> {
-    access.change_property(PropertyAsk {
+    access.set_rev_prop(PropertyAsk {
         revision: 0,
         name: bytes(rt, alloc, b"svn:log"),
         value: value_of(rt, alloc, value),

@@ -95,7 +95,7 @@ fn count_once<A: RepoAccess>(
     let view = access.look().expect(rt, "a look");
     let seen = property(rt, alloc, &view, 0, COUNT);
     let next = count_of(seen.as_ref()).wrapping_add(1);
-    access.change_property(PropertyAsk {
+    access.set_rev_prop(PropertyAsk {
         revision: 0,
         name: bytes(rt, alloc, COUNT),
         value: Some(bytes(rt, alloc, &next.to_be_bytes())),

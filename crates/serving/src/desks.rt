@@ -70,7 +70,7 @@ impl<'r, R: Clock + Wait, F: Filed, S: Store, J: Naming> Desk<'r, R, F, S, J> {
 
 /// Serves callers at a desk, one after another, until no more can come, with the options of the server, from the moment
 /// that its seat has seen. It gives back what they were served at.
-fn served_at<'r, R, F, S, J>(
+fn serve_callers<'r, R, F, S, J>(
     server: &Server<'_, R>,
     pool: &SessionPool<'_, Registry<'_, R>, Registry<'_, R>>,
     callers: &Receiver<Client<'_, R>>,
@@ -107,7 +107,7 @@ where
     requires options { settings_of pool.now ≡ server.now.settings.now.options }
     requires sound { AreSound (content_of (point_of desk.seat)).revisions }
 {
-    drop(served_at(server, pool, callers, desk));
+    drop(serve_callers(server, pool, callers, desk));
 }
 
 /// A repository in files that sessions share.

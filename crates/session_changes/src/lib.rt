@@ -9,5 +9,5 @@ mod token;
 mod unlocking;
 
 pub use locking::lock;
-pub use revising::change_property;
+pub use revising::set_rev_prop;
 pub use unlocking::unlock;

@@ -22,7 +22,7 @@ fn ask_change<R: Repository, A: RepoAccess<View = R>, S: ReplySink>(
     ensures { Stepped result S.writes turn.old turn.new A.rules A.point access.old access.new
         (Behind (told_before preface) (RevisingStep turn.old.env client ask)) }
 {
-    match access.change_property(ask) {
+    match access.set_rev_prop(ask) {
         Ok(()) => tell(client, preface, Ok(Reply::Success), turn),
         Err(fault) => tell_fault(client, None, preface, fault, turn),
     }
@@ -50,7 +50,7 @@ fn revise<R: Repository, A: RepoAccess<View = R>, S: ReplySink>(
 
 /// Changes a property of a revision, after what the client is sent before. A client of today is refused first a date
 /// that no client can read.
-pub fn change_property<R: Repository, A: RepoAccess<View = R>, S: ReplySink>(
+pub fn set_rev_prop<R: Repository, A: RepoAccess<View = R>, S: ReplySink>(
     client: Client,
     ask: &PropertyAsk,
     preface: Preface,

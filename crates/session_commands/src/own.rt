@@ -11,7 +11,7 @@ use commands::{CommitCommand, MainCommand};
 use machine::{Client, Options, Phase, Turn};
 use refusals::Refusal;
 use repo_api::Repository;
-use session_changes::{change_property, lock, unlock};
+use session_changes::{lock, set_rev_prop, unlock};
 use session_commits::begin_edit;
 use session_reads::tell_read;
 use session_replies::{Preface, SessionPhase, refuse, say_preface, stands};
@@ -78,7 +78,7 @@ pub fn own_answer<R: Repository, A: RepoAccess<View = R>, S: ReplySink>(
         MainCommand::Unlock(command) => unlock(client, command, preface, access, turn),
         MainCommand::ChangeRevProp(ask) => {
             if options.has_revprops() {
-                change_property(client, ask, preface, access, turn)
+                set_rev_prop(client, ask, preface, access, turn)
             } else {
                 refuse(client, preface, Refusal::RevisionPropertiesClosed, turn)
             }

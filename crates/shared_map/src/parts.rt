@@ -1,5 +1,5 @@
 //! Parts of a map: lists of shared entries.
-ghost use Rattle.std.specs.{Prelude.{◌≡◌, ◌<◌, ◌++◌, ◌∷◌, [], length, IfOk, OnOk, OnErr}, List.remove};
+ghost use Rattle.std.specs.{Prelude.{◌≡◌, ◌<◌, ◌≤◌, ◌++◌, ◌∷◌, [], length, IfOk, OnOk, OnErr}, List.remove};
 ghost use Rattle.shared_map.specs.Entries.{values};
 
 use byte_string::ByteString;
@@ -7,7 +7,19 @@ use std::alloc::{AllocError, Global};
 use std::sync::Arc;
 
 /// The most entries of a part.
-pub(crate) const PART_LIMIT: usize = 128;
+const PART_LIMIT: usize = 128;
+
+/// The entries that a part may have however few parts there are.
+const LEAST_LIMIT: usize = 32;
+
+/// Gives how many entries a part may have among so many parts: a change copies the pointers to the parts and those of one
+/// part, and both together are fewest where they are as many.
+pub(crate) fn limit_among(parts: usize) -> usize
+    ensures least { 32 ≤ result }
+    ensures most { result ≤ 128 }
+{
+    parts.max(LEAST_LIMIT).min(PART_LIMIT)
+}
 
 /// A name with its value.
 pub(crate) type Entry<V> = (ByteString, V);
@@ -19,7 +31,7 @@ pub(crate) type Part<V> = Vec<Arc<Entry<V>>>;
 pub(crate) fn shared<T: Drop>(alloc: Global, parts: &[Arc<T>]) -> Result<Vec<Arc<T>>, AllocError>
     ensures { IfOk result (λ v. values v.items ≡ values parts.now) }
 {
-    let mut list = Vec::new(alloc);
+    let mut list = Vec::with_capacity(alloc, parts.len())?;
     for part in parts {
         put_shared(&mut list, part)?;
     }

@@ -1,9 +1,9 @@
 //! A value at a name.
-ghost use Rattle.std.specs.Prelude.{◌≡◌, ◌<◌, ◌+◌, ◌++◌, ◌∷◌, [], length, take, drop, OnOk, OnErr, IfOk, IsSomeAnd, slice_get, T};
+ghost use Rattle.std.specs.Prelude.{◌≡◌, ◌<◌, ◌≤◌, ◌+◌, ◌++◌, ◌∷◌, [], length, take, drop, OnOk, OnErr, IfOk, IsSomeAnd, slice_get, T};
 ghost use Rattle.std.specs.FinMap.Entries.{is_sorted, put};
 ghost use Rattle.shared_map.specs.Entries.{by_bytes, values, part_entries, all_entries, AreParts, IsBetween, IsFilled};
 
-use crate::parts::{Entry, PART_LIMIT, Part, shared};
+use crate::parts::{Entry, Part, limit_among, shared};
 use crate::searching::{home, search};
 use byte_string::ByteString;
 use std::alloc::{AllocError, Global};
@@ -18,7 +18,10 @@ fn put_in<V: Drop>(list: &mut Part<V>, entry: Arc<Entry<V>>) -> Result<(), Alloc
 {
     match search(list, &entry.0) {
         Ok(place) => list[place] = entry,
-        Err(place) => list.insert(place, entry)?,
+        Err(place) => {
+            list.reserve_exact(1)?;
+            list.insert(place, entry)?;
+        }
     }
     Ok(())
 }
@@ -60,20 +63,21 @@ fn halves<V: Drop>(
     entry: Arc<Entry<V>>,
 ) -> Result<(Arc<Part<V>>, Arc<Part<V>>), AllocError>
     requires sorted { T (is_sorted by_bytes (values part.now)) }
-    requires full { length (values part.now) ≡ 128 }
+    requires more { 1 < length (values part.now) }
+    requires most { length (values part.now) ≤ 128 }
     ensures ok { IfOk result (λ two. part_entries two.0.value ++ part_entries two.1.value
         ≡ put by_bytes entry.value.0 entry.value.1 (values part.now)) }
     ensures filled { IfOk result (λ two. IsFilled two.0.value × IsFilled two.1.value) }
 {
     let mut list = shared(alloc, part)?;
     put_in(&mut list, entry)?;
-    let (first, second) = list.as_slice().split_at(PART_LIMIT / 2);
+    let (first, second) = list.as_slice().split_at(list.len() / 2);
     let first = Arc::new(alloc, shared(alloc, first)?)?;
     let second = Arc::new(alloc, shared(alloc, second)?)?;
     Ok((first, second))
 }
 
-/// Puts the entry into the part where it belongs, which is full, and makes two of it.
+/// Puts the entry into the part where it belongs, which has more than one, and makes two of it.
 fn put_in_two<V: Drop>(
     parts: &mut Vec<Arc<Part<V>>>,
     alloc: Global,
@@ -81,8 +85,8 @@ fn put_in_two<V: Drop>(
     entry: Arc<Entry<V>>,
 ) -> Result<(), AllocError>
     requires parts { AreParts parts.old.items }
-    requires full { IsSomeAnd (slice_get parts.old.items place)
-        (λ part. length (part_entries part.value) ≡ 128) }
+    requires more { IsSomeAnd (slice_get parts.old.items place)
+        (λ part. 1 < length (part_entries part.value)) }
     requires between { IsBetween entry.value.0 (all_entries (take place parts.old.items))
         (all_entries (drop (place + 1) parts.old.items)) }
     ensures ok { OnOk result (all_entries parts.new.items
@@ -107,7 +111,7 @@ fn put_first<V: Drop>(
     ensures err { OnErr result (parts.new.items ≡ []) }
     ensures parts { AreParts parts.new.items }
 {
-    let mut list = Vec::new(alloc);
+    let mut list = Vec::with_capacity(alloc, 1)?;
     list.push(entry)?;
     parts.push(Arc::new(alloc, list)?)?;
     Ok(())
@@ -129,7 +133,7 @@ pub(crate) fn put_entry<V: Drop>(
         return put_first(parts, alloc, entry);
     }
     let place = home(parts, &entry.0);
-    if parts[place].len() < PART_LIMIT {
+    if parts[place].len() < limit_among(parts.len()) {
         put_with_room(parts, place, entry)
     } else {
         put_in_two(parts, alloc, place, entry)

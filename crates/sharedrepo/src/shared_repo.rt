@@ -153,7 +153,7 @@ impl<
 
     /// Makes this the value of a property of a revision, or takes the property out where there is no
     /// value, if the value before is the one that is asked for.
-    pub fn change_property<W: Wait>(
+    pub fn set_rev_prop<W: Wait>(
         &self,
         rt: &W,
         seat: &mut Seat<R, J, T>,
@@ -163,7 +163,7 @@ impl<
         ensures lock { CallsUnderLock S.kept S.stands S.leaves (ChangesPropertyAt shared_rules ask)
             (ChangesProperty ask ∷ []) seat.old result seat.new }
     {
-        let answer = seat_calls::change_property(&mut self.keeper.lock(rt), rt, seat, ask);
+        let answer = seat_calls::set_rev_prop(&mut self.keeper.lock(rt), rt, seat, ask);
         self.note(seat);
         answer
     }

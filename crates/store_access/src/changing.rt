@@ -213,7 +213,7 @@ impl<F: Filed, S: Store> RepoAccess for StoredRepository<F, S> {
         self.unlock_in_files(ask)
     }
 
-    fn change_property(&mut self, ask: PropertyAsk) -> Result<(), ChangeFault>
+    fn set_rev_prop(&mut self, ask: PropertyAsk) -> Result<(), ChangeFault>
         ensures point { Happens sole_rules (ChangesPropertyAt sole_rules ask) (point_of self.old) result
             (point_of self.new) }
         ensures stop { StopLeaves (ChangesProperty ask ∷ []) self.old self.new }

@@ -1,5 +1,5 @@
 -- Paths, as lists of components, which are lists of bytes.
-use Rattle.std.specs.{Prelude.{◌≡◌, ℕ, Bool, ◌==◌, List}, Cmp.IsTotalOrder, Coded.{Coded, coded_ℕ, coded_list}}
+use Rattle.std.specs.{Prelude.{◌≡◌, ℕ, Bool, ◌==◌, List, [], Option, Some, None}, Arc.arc_value, declared.sync.Arc.Arc, declared.vec.Vec.Vec, Cmp.IsTotalOrder, Coded.{Coded, coded_ℕ, coded_list}}
 use Rattle.std.specs.FinMap.{IsAntisymmetric, nat_cmp-IsAntisymmetric, slice_cmp-IsAntisymmetric}
 use Rattle.std.specs.{Cmp.Lexicographic.{slice_cmp, pointwise, lists_total, lists_ties, nat_list_cmp_total, texts_ties}, List.starts_with}
 use Rattle.std.specs.{Ordering.{nat_cmp, is_eq}, declared.cmp.Ordering.Ordering}
@@ -19,6 +19,11 @@ same_path = pointwise same_component
 -- component by component, each by its bytes: what is at or under a path stands together
 abbrev pub path_cmp : PathValue → PathValue → Ordering
 path_cmp = slice_cmp (slice_cmp nat_cmp)
+
+-- the components that clones share; none are the root's
+abbrev pub components_in : {Y Z : Type 0} → Option (Arc (Vec Component Y) Z) → PathValue
+components_in None = []
+components_in (Some shared) = (arc_value shared).items
 
 -- whether the path is at or under the other: the other begins it
 abbrev pub is_at_or_under : PathValue → PathValue → Bool

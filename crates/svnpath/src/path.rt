@@ -3,7 +3,7 @@ ghost use Rattle.std.specs.Prelude.{◌≡◌, ◌+◌, ◌<◌, ◌≤◌, ◌+
 ghost use Rattle.std.specs.Cmp.{partial_order_from_agreeing_total, partial_equiv_from_equiv};
 ghost use Rattle.std.specs.{Cmp.Lexicographic.{lists_equiv, lists_total, lists_ties, nat_list_eq_equiv, nat_list_cmp_total, texts_ties}, List.flat_map};
 ghost use Rattle.svnpath.specs.Components.{beneath, AnswersPath, IsRightPath};
-ghost use Rattle.svnpath.specs.Paths.{PathValue, is_at_or_under, same_path, path_cmp, path_cmp_total, path_ties};
+ghost use Rattle.svnpath.specs.Paths.{PathValue, components_in, is_at_or_under, same_path, path_cmp, path_cmp_total, path_ties};
 ghost use Rattle.svnpath.specs.Texts.{parsed, joined, parent, path_text, components_of, without_first_slash, without_last_slash};
 ghost use Rattle.svnpath.specs.Urls.{path_of_text, NamesPath};
 
@@ -14,43 +14,54 @@ use byte_string::ByteString;
 use std::alloc::{AllocError, Global};
 use std::cmp::Ordering;
 use std::marker::Model;
+use std::sync::Arc;
 
-/// An absolute path without empty components, `.` or `..`, as `/a/b`: the list of its components.
+/// An absolute path without empty components, `.` or `..`, as `/a/b`: the list of its components, which its clones share.
 ///
 /// `parse`, `join` and `from_url` make right paths only. `child` and `rebased` make a path of any
 /// components and of any depth, as the trees above need them.
 #[derive(Debug)]
 pub struct Path {
-    components: Vec<ByteString>,
+    /// None for the root.
+    shared: Option<Arc<Vec<ByteString>>>,
 }
 
 impl Drop for Path {
     fn drop(self) {
-        let Path { components: _ } = self;
+        let Path { shared: _ } = self;
     }
 }
 
 impl Model for Path {
     ghost Value = { PathValue };
 
-    ghost view = { λ p. p.components.items };
+    ghost view = { λ p. components_in p.shared };
 }
 
 impl Path {
     /// Makes the root, `/`.
-    pub fn root(alloc: Global) -> Self
+    pub fn root(_alloc: Global) -> Self
         ensures { result ≡ [] }
     {
-        Path {
-            components: Vec::new(alloc),
-        }
+        Path { shared: None }
     }
 
     /// Makes the path of these components, which are not checked here.
-    pub(crate) fn from_components(components: Vec<ByteString>) -> Self
-        ensures { result ≡ components.items }
+    pub(crate) fn from_components(
+        alloc: Global,
+        components: Vec<ByteString>,
+    ) -> Result<Self, AllocError>
+        ensures { IfOk result (λ path. path ≡ components.items) }
     {
-        Path { components }
+        if components.is_empty() {
+            std::mem::drop(components);
+            return Ok(Path { shared: None });
+        }
+        let mut components = components;
+        components.shrink_to_fit();
+        Ok(Path {
+            shared: Some(Arc::new(alloc, components)?),
+        })
     }
 
     /// Reads an absolute text: `/` is the root, and a slash stands before each component of the others.
@@ -108,62 +119,67 @@ impl Path {
         ensures value { AnswersPath result (beneath self.now (components_of text.now)) }
         ensures right { IsRightPath self.now → IfOk result IsRightPath }
     {
-        let above = self.copied()?;
         if text.is_empty() {
-            return Ok(Path { components: above });
+            return Ok(self.clone()?);
         }
+        let above = self.copied(alloc)?;
         let components = append_parts(alloc, above, Spelling::Plain, text)?;
-        Ok(Path { components })
+        Ok(Path::from_components(alloc, components)?)
     }
 
     /// Copies the components of the path. It fails only if there is no memory.
-    fn copied(&self) -> Result<Vec<ByteString>, AllocError>
+    fn copied(&self, alloc: Global) -> Result<Vec<ByteString>, AllocError>
         ensures { IfOk result (λ components. components.items ≡ self.now) }
     {
-        self.components.clone()
+        let mut components = Vec::new(alloc);
+        append_all(&mut components, self.components())?;
+        Ok(components)
     }
 
     /// Makes the path of an entry of this directory.
     pub fn child(&self, alloc: Global, name: ByteString) -> Result<Self, AllocError>
         ensures { IfOk result (λ p. p ≡ self.now ++ name ∷ []) }
     {
-        let mut components = Vec::new(alloc);
-        append_all(&mut components, self.components.as_slice())?;
+        let mut components = Vec::with_capacity(alloc, self.len().saturating_add(1))?;
+        append_all(&mut components, self.components())?;
         components.push(name)?;
-        Ok(Path { components })
+        Path::from_components(alloc, components)
     }
 
     /// Gives the directory that this path is an entry of, or `None` for the root.
     pub fn parent(&self, alloc: Global) -> Result<Option<Self>, AllocError>
         ensures { IfOk result (λ above. above ≡ parent self.now) }
     {
-        let Some((_, above)) = self.components.split_last() else {
+        let Some((_, above)) = self.components().split_last() else {
             return Ok(None);
         };
-        let mut components = Vec::new(alloc);
+        let mut components = Vec::with_capacity(alloc, above.len())?;
         append_all(&mut components, above)?;
-        Ok(Some(Path { components }))
+        Ok(Some(Path::from_components(alloc, components)?))
     }
 
     /// Counts the components of the path.
     pub fn len(&self) -> usize
         ensures { result ≡ length self.now }
     {
-        self.components.len()
+        self.components().len()
     }
 
     /// Says whether this path is `/`, that is, has no components.
     pub fn is_root(&self) -> bool
         ensures { IsTrue result ↔ (self.now ≡ []) }
     {
-        self.components.is_empty()
+        self.components().is_empty()
     }
 
     /// Gives the components, from the root down.
     pub fn components(&self) -> &[ByteString]
         ensures { result.now ≡ self.now }
     {
-        self.components.as_slice()
+        match &self.shared {
+            None => &[],
+            Some(components) => components.as_slice(),
+        }
     }
 
     /// Says whether this path is `above`, or lies under it.
@@ -171,7 +187,7 @@ impl Path {
         ensures value { result ≡ is_at_or_under self.now above.now }
         ensures bound { IsTrue result → length above.now ≤ length self.now }
     {
-        self.components.starts_with(above.components.as_slice())
+        self.components().starts_with(above.components())
     }
 
     /// Gives this path with its first `from.len()` components replaced by `to`.
@@ -180,9 +196,9 @@ impl Path {
         ensures { IfOk result (λ p. p ≡ to.now ++ drop (length from.now) self.now) }
     {
         let mut components = Vec::new(alloc);
-        append_all(&mut components, to.components.as_slice())?;
-        append_all(&mut components, &self.components[from.components.len()..])?;
-        Ok(Path { components })
+        append_all(&mut components, to.components())?;
+        append_all(&mut components, &self.components()[from.len()..])?;
+        Path::from_components(alloc, components)
     }
 
     /// Appends the path's text, as `/a/b`; the root's is `/`. Without memory for it the buffer stays
@@ -191,12 +207,12 @@ impl Path {
         ensures ok { OnOk result (out.new.items ≡ out.old.items ++ path_text self.now) }
         ensures err { OnErr result (out.new.items ≡ out.old.items) }
     {
-        if self.components.is_empty() {
+        if self.is_root() {
             out.push(b'/')?;
             return Ok(());
         }
         let before = out.len();
-        let appended = append_texts(self.components.as_slice(), out);
+        let appended = append_texts(self.components(), out);
         if appended.is_err() {
             out.truncate(before);
         }
@@ -245,9 +261,12 @@ impl Clone for Path {
     ghost is_clone = { λ path copy. copy ≡ path };
 
     fn clone(&self) -> Result<Self, AllocError> {
-        Ok(Path {
-            components: self.components.clone()?,
-        })
+        match &self.shared {
+            None => Ok(Path { shared: None }),
+            Some(components) => Ok(Path {
+                shared: Some(Arc::try_clone(components)?),
+            }),
+        }
     }
 }
 
@@ -257,7 +276,7 @@ impl PartialEq for Path {
     ghost laws = { partial_equiv_from_equiv (lists_equiv nat_list_eq_equiv) };
 
     fn eq(&self, other: &Self) -> bool {
-        self.components == other.components
+        self.components() == other.components()
     }
 }
 
@@ -275,7 +294,7 @@ impl Ord for Path {
     ghost matches_eq = { path_ties };
 
     fn cmp(&self, other: &Self) -> Ordering {
-        self.components.cmp(&other.components)
+        self.components().cmp(other.components())
     }
 }
 

@@ -161,7 +161,7 @@ fn path_of_segments(alloc: Global, text: &[u8], name: &str) -> Result<Path, Path
         Some(others) => {
             let above = Vec::new(alloc);
             let components = append_parts(alloc, above, Spelling::PercentEncoded, others)?;
-            Ok(Path::from_components(components))
+            Ok(Path::from_components(alloc, components)?)
         }
         None => Ok(Path::root(alloc)),
     }

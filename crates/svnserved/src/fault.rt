@@ -66,45 +66,45 @@ impl fmt::Display for Called {
 }
 
 /// Gives what a fault is called, with its meaning.
-fn call_it(name: &'static str, meaning: &'static str) -> Called {
+fn explain(name: &'static str, meaning: &'static str) -> Called {
     Called { name, meaning }
 }
 
 /// Gives what a fault of a file is called.
 fn file_fault(fault: FileFault) -> Called {
     match fault {
-        FileFault::Truncated => call_it("X1", "a file is cut off: take the folder from a backup"),
-        FileFault::BadLine => call_it("X2", "a file has a bad line: take the folder from a backup"),
-        FileFault::Delta => call_it(
+        FileFault::Truncated => explain("X1", "a file is cut off: take the folder from a backup"),
+        FileFault::BadLine => explain("X2", "a file has a bad line: take the folder from a backup"),
+        FileFault::Delta => explain(
             "X3",
             "another program wrote the folder, with texts as deltas: take its history over by `svnsync`",
         ),
-        FileFault::Digest => call_it(
+        FileFault::Digest => explain(
             "X4",
             "a file does not have its digest: take the folder from a backup",
         ),
-        FileFault::Dangling => call_it(
+        FileFault::Dangling => explain(
             "X5",
             "a file names what is not there: take the folder from a backup",
         ),
-        FileFault::WrongFormat => call_it(
+        FileFault::WrongFormat => explain(
             "X6",
             "there is no repository of format 2 or 3: take over that of another program by `svnsync`",
         ),
-        FileFault::NoMemory => call_it("X7", "out of memory"),
+        FileFault::NoMemory => explain("X7", "out of memory"),
     }
 }
 
 /// Gives what a fault is called by which the files of a repository are not read, or not made.
 fn store_fault(fault: StoreFault) -> Called {
     match fault {
-        StoreFault::Exists => call_it("exists", "there is a repository, which is left as it is"),
-        StoreFault::Device => call_it(
+        StoreFault::Exists => explain("exists", "there is a repository, which is left as it is"),
+        StoreFault::Device => explain(
             "O1",
             "the device failed: a file is not read, or not written",
         ),
-        StoreFault::Halted => call_it("O3", "changes have come to a halt: start again"),
-        StoreFault::NoMemory => call_it("O4", "out of memory"),
+        StoreFault::Halted => explain("O3", "changes have come to a halt: start again"),
+        StoreFault::NoMemory => explain("O4", "out of memory"),
         StoreFault::File(fault) => file_fault(fault),
     }
 }
@@ -112,25 +112,25 @@ fn store_fault(fault: StoreFault) -> Called {
 /// Gives what a fault is called by which a folder is not opened.
 fn folder_fault(fault: FolderFault) -> Called {
     match fault {
-        FolderFault::Missing => call_it("X6", "there is no repository: make one by `create`"),
-        FolderFault::InUse => call_it("in use", "another program has the folder"),
-        FolderFault::NotPlain => call_it(
+        FolderFault::Missing => explain("X6", "there is no repository: make one by `create`"),
+        FolderFault::InUse => explain("in use", "another program has the folder"),
+        FolderFault::NotPlain => explain(
             "not plain",
             "a file or folder of the repository is a link, or of another kind",
         ),
-        FolderFault::Unwritable => call_it("O1", "the folder cannot be written"),
-        FolderFault::Device => call_it("O1", "the folder cannot be opened"),
-        FolderFault::NoMemory => call_it("O4", "out of memory"),
+        FolderFault::Unwritable => explain("O1", "the folder cannot be written"),
+        FolderFault::Device => explain("O1", "the folder cannot be opened"),
+        FolderFault::NoMemory => explain("O4", "out of memory"),
     }
 }
 
 /// Gives what a fault of a hub is called.
 fn hub_fault(fault: HubFault) -> Called {
     match fault {
-        HubFault::NoSession => call_it("H1", "no session of that number is open"),
-        HubFault::NoMemory => call_it("H2", "out of memory"),
-        HubFault::Halted => call_it("H3", "changes have come to a halt: start again"),
-        HubFault::Full => call_it("H4", "all sessions are taken"),
+        HubFault::NoSession => explain("H1", "no session of that number is open"),
+        HubFault::NoMemory => explain("H2", "out of memory"),
+        HubFault::Halted => explain("H3", "changes have come to a halt: start again"),
+        HubFault::Full => explain("H4", "all sessions are taken"),
     }
 }
 
@@ -144,7 +144,7 @@ impl fmt::Display for Unserved<'_> {
         match fault {
             ServingFault::Name | ServingFault::Address => writeln!(f, "error: {fault}"),
             ServingFault::Store(fault) => write!(f, "{}", store_fault(*fault)),
-            ServingFault::NoMemory => write!(f, "{}", call_it("O4", "out of memory")),
+            ServingFault::NoMemory => write!(f, "{}", explain("O4", "out of memory")),
             _ => writeln!(f, "svnserved: {fault}"),
         }
     }
@@ -170,7 +170,7 @@ impl fmt::Display for ProgramFault {
             | ProgramFault::Unread(fault, _)
             | ProgramFault::NewStore(fault) => write!(f, "{}", store_fault(*fault)),
             ProgramFault::NotOfFormatTwo => {
-                write!(f, "{}", call_it("X6", "there is no repository of format 2"))
+                write!(f, "{}", explain("X6", "there is no repository of format 2"))
             }
         }
     }

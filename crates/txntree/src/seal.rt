@@ -23,6 +23,7 @@ impl OpenNode {
     {
         let mut block = Vec::new(alloc);
         let root = self.sealed(alloc, nodes, rev, Path::root(alloc), &mut block)?;
+        block.shrink_to_fit();
         Ok(Block { nodes: block, root })
     }
 

@@ -244,7 +244,7 @@ fn name(rt: &impl Abort, alloc: Global, text: &[u8]) -> ByteString {
 #[test]
 fn names_children(rt: HostRuntime) {
     let alloc = rt.alloc();
-    let bytes = name(&rt, alloc, b"a").into_vec();
+    let bytes = name(&rt, alloc, b"a");
     let a = Path::root(alloc).child(alloc, name(&rt, alloc, b"a"));
     let a = a.expect(&rt, "a path");
     let names = a.components();

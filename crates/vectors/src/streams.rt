@@ -134,9 +134,7 @@ fn decodes_what_it_writes(rt: HostRuntime) {
 /// Says whether a string is of so many bytes.
 fn is_string(item: Option<Item>, length: usize) -> bool {
     match item {
-        Some(Item::Str(text)) => {
-            text.as_slice().len() == length && text.into_vec().len() == length
-        }
+        Some(Item::Str(text)) => text.as_slice().len() == length,
         _ => false,
     }
 }

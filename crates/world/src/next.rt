@@ -30,7 +30,7 @@ impl World {
     }
 
     /// Makes the repository with the lock, if it is accepted.
-    pub fn locked(&self, ask: &LockAsk) -> Result<World, ChangeFault>
+    pub fn with_lock(&self, ask: &LockAsk) -> Result<World, ChangeFault>
         ensures { ChangesTo result self.now (Accepted.Locks ask.now) }
     {
         if let Some(refusal) = current_refusal(self.held.youngest(), ask.current) {
@@ -43,7 +43,7 @@ impl World {
     }
 
     /// Makes the repository without the lock, if that is accepted.
-    pub fn unlocked(&self, ask: &UnlockAsk) -> Result<World, ChangeFault>
+    pub fn without_lock(&self, ask: &UnlockAsk) -> Result<World, ChangeFault>
         ensures { ChangesTo result self.now (Accepted.Unlocks ask.now) }
     {
         let mut locks = Arc::try_clone(&self.locks)?;
@@ -66,7 +66,7 @@ impl World {
     }
 
     /// Makes the repository with a property of a revision changed, if that is accepted.
-    pub fn property_changed(&self, ask: &PropertyAsk) -> Result<World, ChangeFault>
+    pub fn with_rev_prop(&self, ask: &PropertyAsk) -> Result<World, ChangeFault>
         ensures { ChangesTo result self.now (Accepted.ChangesProperty ask.now) }
     {
         if let Some(refusal) = refusal_of(&self.held, ask) {

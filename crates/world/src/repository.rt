@@ -188,7 +188,7 @@ impl Repository for World {
         unlock_shared(&mut self.locks, ask)
     }
 
-    fn change_property(&mut self, ask: PropertyAsk) -> Result<(), ChangeFault> {
+    fn set_rev_prop(&mut self, ask: PropertyAsk) -> Result<(), ChangeFault> {
         if let Some(refusal) = refusal_of(&self.held, &ask) {
             std::mem::drop(ask);
             return Err(ChangeFault::Refused(refusal));

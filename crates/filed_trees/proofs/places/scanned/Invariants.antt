@@ -1,5 +1,5 @@
 use Rattle.std.proofs.Common.{◌≡◌, ◌<◌, ℕ, Some, slice_get}
-use Rattle.filed_trees.specs.declared.table.Placed.{Placed}
+use Rattle.filed_trees.specs.declared.placed.Placed.{Placed}
 use Rattle.filed_trees.proofs.places.scanned.Given as goal
 
 abbrev pub invariant-loop-k : goal.invariant-loop-k

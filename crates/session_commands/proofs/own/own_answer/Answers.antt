@@ -44,7 +44,7 @@ returns-in-Unlock g c = rw c.in-Unlock.is c.unlock.ensures
 
 pub returns-then-has_revprops : goal.returns-then-has_revprops
 returns-then-has_revprops g c =
-    rw c.in-ChangeRevProp.is (rw (sym c.has_revprops.ensures ∙ c.if-has_revprops.true) c.change_property.ensures)
+    rw c.in-ChangeRevProp.is (rw (sym c.has_revprops.ensures ∙ c.if-has_revprops.true) c.set_rev_prop.ensures)
 
 pub returns-else-has_revprops : goal.returns-else-has_revprops
 returns-else-has_revprops g c =

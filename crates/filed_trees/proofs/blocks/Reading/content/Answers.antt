@@ -20,5 +20,5 @@ returns-in_ok-kids-in-Directory-clause-content c = λ files came was.
     let body = subst (λ k. IsBody files line k c.in_ok-body.body) c.earlier_text-kept.ensures
     (c.in_ok-body.ensures.body files (λ l body at same new. came l body at (same ∙ c.revision.ensures) new)) in
     directory_content files (tables_of c.args.self.places) c.args.piece.now.node (arc_value c.in_ok-content-in-Directory.content)
-    c.in_ok-kids-in-Directory.field-0 c.in-Directory.is c.in_ok-content-in-Directory.ensures.ok
+    c.in_ok-kids-in-Directory.field-0 c.in-Directory.is c.in_ok-content-in-Directory.ensures
     (c.in_ok-kids-in-Directory.ensures.1 files line body was)

@@ -49,7 +49,7 @@ returns-in_err-node-clause-read c = λ files for last.
     let row = c.row-item.result in
     let right = λ (r : Bor FilePiece). IsReadable files places.tables.now (IsTabled (tables_of places)) r.now in
     let fault = c.in_err-node.field-0.0 in
-    let is : c.from_residual.result ≡ Err fault = search rules in
+    let is : c.from_residual-in_err-node.result ≡ Err fault = search rules in
     subst (λ r. ReadsWhere r (All right rows) (λ (nodes : Vec NodeRev Global). AreReadFrom files places rows nodes.items)) (sym is)
     (no_part fault (λ all. subst right (sym c.row-item.is) (all i row c.loop-row-test.true))
     (c.in_err-node.ensures.read files for

@@ -1,7 +1,7 @@
 use Rattle.std.proofs.{Common.{ap, ◌∙◌}, Math.Logic.∥∥₁_map}
 use Rattle.held.specs.Contents.{held_state, revisions_of}
 use Rattle.world.proofs.Keeping.{same_revisions}
-use Rattle.world.proofs.world.World.property_changed.Goals as goal
+use Rattle.world.proofs.world.World.with_rev_prop.Goals as goal
 
 pub invariant_of-result : goal.invariant_of-result
 invariant_of-result c = record {

@@ -4,7 +4,7 @@ use Rattle.published.specs.Moments.{shared_rules}
 use Rattle.repo_api.specs.Accepted.Accepted.{ChangesProperty}
 use Rattle.keepers.proofs.Stopping.{still}
 use Rattle.seat_calls.proofs.Calling.{called, given_up, turned_away}
-use Rattle.seat_calls.proofs.calls.change_property.Goals as goal
+use Rattle.seat_calls.proofs.calls.set_rev_prop.Goals as goal
 
 pub returns-clause-calls : goal.returns-clause-calls
 returns-clause-calls g c =

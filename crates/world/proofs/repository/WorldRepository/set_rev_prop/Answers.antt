@@ -1,7 +1,7 @@
 use Rattle.std.proofs.{Common.{ap, ◌∙◌}, Math.Logic.∥∥₁_map}
 use Rattle.held.specs.Contents.{held_state, revisions_of}
 use Rattle.world.proofs.Keeping.{same_revisions}
-use Rattle.world.proofs.repository.WorldRepository.change_property.Goals as goal
+use Rattle.world.proofs.repository.WorldRepository.set_rev_prop.Goals as goal
 
 pub invariant_of-self : goal.invariant_of-self
 invariant_of-self c = record {

@@ -2,7 +2,7 @@ use Rattle.std.proofs.Common.{◌∙◌, refl, sym, true}
 use Rattle.machine.specs.Commands.{DatingStep}
 use Rattle.session_replies.specs.Telling.{told_before}
 use Rattle.session_replies.proofs.Steps.{leads_behind, only_says, stepped}
-use Rattle.session_changes.proofs.revising.change_property.Goals as goal
+use Rattle.session_changes.proofs.revising.set_rev_prop.Goals as goal
 
 pub returns-then-is_refused_date : goal.returns-then-is_refused_date
 returns-then-is_refused_date g c =

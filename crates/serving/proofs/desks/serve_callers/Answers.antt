@@ -1,7 +1,7 @@
 use Rattle.std.proofs.Common.{ap}
 use Rattle.published.specs.Events.{point_of}
 use Rattle.serving.proofs.Served.{from_same}
-use Rattle.serving.proofs.desks.served_at.Goals as goal
+use Rattle.serving.proofs.desks.serve_callers.Goals as goal
 
 pub returns : goal.returns
 returns g c =
