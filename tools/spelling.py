@@ -13,6 +13,7 @@ MOMENT = 1_000_000
 
 TEXTS = {
     125005: "not a date",
+    150003: "not deleted",
     160000: "store failed",
     160005: "bad path",
     160006: "no such revision",
@@ -198,8 +199,30 @@ def locations_told(*places):
     return NO_LOGIN + b"".join(b"( %d " % revision + string(path) + b") " for revision, path in places) + DONE + EMPTY
 
 
+def revision_or_none(revision):
+    """`[ rev ]`: a revision that may be left out."""
+    return b"( ) " if revision is None else b"( %d ) " % revision
+
+
+def location_segments(path, peg=None, start=None, end=None):
+    """Where what stands at a path in a revision was, stretch by stretch."""
+    asked = b"".join(map(revision_or_none, (peg, start, end)))
+    return b"( get-location-segments ( " + string(path) + asked + b") ) "
+
+
+def segments_told(*segments):
+    """The answer to `get-location-segments`: first and last revisions, and paths without a slash in front, or None."""
+    told = (b"( %d %d ( %s) ) " % (first, last, b"" if path is None else string(path)) for first, last, path in segments)
+    return NO_LOGIN + b"".join(told) + DONE + EMPTY
+
+
+def deleted_revision(path, peg, end):
+    """In which revision what stands at a path was taken away."""
+    return b"( get-deleted-rev ( " + string(path) + b"%d %d ) ) " % (peg, end)
+
+
 def listing_refused(number, path=None):
-    """What `log` and `get-locations` are told where they are refused: behind the end of a listing."""
+    """What `log`, `get-locations` and `get-location-segments` are told where they are refused: behind the end of a listing."""
     return NO_LOGIN + DONE + refusal(number, path)
 
 

@@ -7,7 +7,7 @@ abbrev pub list_of : Bytes → List ℕ
 list_of (Bytes.Short count held) = take count held
 list_of (Bytes.Long items) = items.items
 
--- a few are at most 23
+-- a few are at most 30
 abbrev pub IsWithin : Bytes → Type 0
-IsWithin (Bytes.Short count held) = count ≤ 23
+IsWithin (Bytes.Short count held) = count ≤ 30
 IsWithin (Bytes.Long items) = 0 ≤ 0

@@ -3,7 +3,7 @@
 //! A `ByteString` owns any bytes: a component of a path, a string of the wire protocol, a token, a
 //! name, a text. A clause sees the list of its bytes and no buffer, so two that hold the same bytes
 //! are equal in clauses too, and a copy is the same value. They are ordered byte by byte; one that
-//! begins another is less. Up to 23 bytes take no memory of their own.
+//! begins another is less. Up to 30 bytes take no memory of their own.
 #![tactic(auto)]
 
 ghost use Rattle.std.specs.{Prelude.{◌≡◌, ◌==◌, ◌≤◌, ℕ, List, refl, Some, IfOk, length}, Cmp.partial_equiv_from_equiv};
@@ -15,7 +15,7 @@ use std::cmp::Ordering;
 use std::marker::Model;
 
 /// The most bytes that have no memory of their own.
-const SHORT: usize = 23;
+const SHORT: usize = 30;
 
 /// Bytes: a few are held in place, with their number; more have memory of their own.
 #[derive(Debug, Drop)]
@@ -46,7 +46,7 @@ impl Model for ByteString {
 
 /// Holds a few bytes.
 fn short(bytes: &[u8]) -> Bytes
-    requires { length bytes.now ≤ 23 }
+    requires { length bytes.now ≤ 30 }
     ensures bytes { list_of result ≡ bytes.now }
     ensures within { IsWithin result }
 {

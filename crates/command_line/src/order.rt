@@ -76,6 +76,11 @@ pub enum Order {
     },
     /// Serve sessions over TCP.
     Serve(Service),
+    /// Ask the server at an address which revision of the repository of this name is the youngest.
+    Status {
+        address: String,
+        name: String,
+    },
     /// Say which version of the program this is.
     Version,
 }

@@ -16,6 +16,12 @@ pub(crate) const STDIO: &str = "stdio";
 /// The command that serves sessions over TCP.
 pub(crate) const SERVE: &str = "serve";
 
+/// The command that asks a server whether it serves.
+pub(crate) const STATUS: &str = "status";
+
+/// The argument that says where a server listens.
+pub(crate) const ADDRESS: &str = "ADDRESS:PORT";
+
 /// The argument that names the folder.
 pub(crate) const FOLDER: &str = "DIR";
 
@@ -97,7 +103,7 @@ fn listen_argument<'a>(alloc: Global) -> Arg<'a> {
         alloc,
         LISTEN,
         "ADDRESS:PORT",
-        "Where to listen: a dotted IPv4 address, and a port, where 0 is one that is free",
+        "Where to listen: an IPv4 address, or an IPv6 address in brackets, and a port, where 0 is one that is free",
     )
 }
 
@@ -200,6 +206,18 @@ fn serve_command<'a>(alloc: Global) -> Result<Command<'a>, AllocError> {
         .arg(quiet_argument(alloc))
 }
 
+/// Makes the command `status ADDRESS:PORT --name NAME`.
+fn status_command<'a>(alloc: Global) -> Result<Command<'a>, AllocError> {
+    Command::new(alloc, STATUS)
+        .about("Asks a server for its youngest revision, as a client that only reads")
+        .arg(
+            Arg::new(alloc, ADDRESS).required(true).help(
+                "Where it listens: an IPv4 address, or an IPv6 address in brackets, and a port",
+            ),
+        )?
+        .arg(name_argument(alloc))
+}
+
 /// Makes the program with its commands.
 pub(crate) fn program<'a>(alloc: Global) -> Result<Command<'a>, AllocError> {
     Command::new(alloc, "svnserved")
@@ -209,5 +227,6 @@ pub(crate) fn program<'a>(alloc: Global) -> Result<Command<'a>, AllocError> {
         .subcommand(create_command(alloc)?)?
         .subcommand(migrate_command(alloc)?)?
         .subcommand(stdio_command(alloc)?)?
-        .subcommand(serve_command(alloc)?)
+        .subcommand(serve_command(alloc)?)?
+        .subcommand(status_command(alloc)?)
 }

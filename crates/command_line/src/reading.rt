@@ -5,8 +5,8 @@ ghost use Rattle.command_line.specs.{Counts.{IsCount, IsWithin}, declared.order.
 use crate::fault::CommandLineFault;
 use crate::order::{Location, NewFormat, Order, SESSION_LIMIT, Service};
 use crate::program::{
-    CREATE, FOLDER, FORMAT, LISTEN, MIGRATE, NAME, NEW, PER_ADDRESS, QUIET, REVPROPS, SERVE,
-    SESSIONS, USERS, program,
+    ADDRESS, CREATE, FOLDER, FORMAT, LISTEN, MIGRATE, NAME, NEW, PER_ADDRESS, QUIET, REVPROPS,
+    SERVE, SESSIONS, STATUS, USERS, program,
 };
 use clap::error::ErrorKind;
 use clap::{ArgMatches, Error};
@@ -204,6 +204,14 @@ fn serve_order(alloc: Global, matches: &ArgMatches<'_>) -> Result<Order, Command
     }))
 }
 
+/// Makes the order that the arguments of `status` give.
+fn status_order(alloc: Global, matches: &ArgMatches<'_>) -> Result<Order, CommandLineFault> {
+    Ok(Order::Status {
+        address: value_of(alloc, matches, ADDRESS)?,
+        name: value_of(alloc, matches, NAME)?,
+    })
+}
+
 /// Reads the words of a command line, the program's own name first.
 pub fn read_command_line(alloc: Global, words: &[String]) -> Result<Order, CommandLineFault> {
     match program(alloc)?.try_get_matches_from(words) {
@@ -211,6 +219,7 @@ pub fn read_command_line(alloc: Global, words: &[String]) -> Result<Order, Comma
             Some((CREATE, arguments)) => create_order(alloc, arguments),
             Some((MIGRATE, arguments)) => migrate_order(alloc, arguments),
             Some((SERVE, arguments)) => serve_order(alloc, arguments),
+            Some((STATUS, arguments)) => status_order(alloc, arguments),
             Some((_, arguments)) => stdio_order(alloc, arguments),
             None => Err(bad(alloc, "error: a command is missing\n")),
         },

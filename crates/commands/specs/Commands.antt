@@ -10,7 +10,8 @@ use Rattle.commands.specs.{Logins.are_words, declared.command.CommandName.Comman
 use Rattle.commands.specs.declared.command.DriveCommand.TheVariants.{Update, Switch, Status}
 use Rattle.commands.specs.declared.command.MainCommand.TheVariants.{Read, Drive, Commit, AbortEdit, Lock, Unlock, ChangeRevProp, Reparent}
 use Rattle.commands.specs.declared.command.ReadCommand.TheVariants.{GetLatestRev, CheckPath, RevProplist, GetLock, GetLocks, GetFile, GetDir, Stat, GetDatedRev}
-use Rattle.commands.specs.declared.command.ReadCommand.TheVariants.{RevProp, Log, GetLocations}
+use Rattle.commands.specs.declared.command.ReadCommand.TheVariants.{RevProp, Log, GetLocations, History}
+use Rattle.commands.specs.declared.command.HistoryCommand.TheVariants.{GetLocationSegments, GetDeletedRev}
 use Rattle.commands.specs.declared.command.CommandName.TheVariants as names
 use Rattle.repo_api.specs.{declared.property_ask.PreviousValue.PreviousValue, declared.property_ask.PreviousValue.TheVariants.{Any, Exactly}}
 
@@ -227,7 +228,25 @@ get_locations params = do
   revisions ← numbers revisions
   Some (Read (GetLocations (record { path = path; peg = peg; revisions = revisions })))
 
--- the names of the commands, as they are sent
+-- `( path [ peg ] [ start ] [ end ] )`
+abbrev pub get_location_segments : ItemValues → Option MainCommand
+get_location_segments params = do
+  (path, rest) ← string_first params
+  (peg, rest) ← revision_first rest
+  (start, rest) ← revision_first rest
+  (end, _) ← revision_first rest
+  Some (Read (History (GetLocationSegments
+      (record { path = path; peg = peg; start = start; end = end }))))
+
+-- `( path peg end )`
+abbrev pub get_deleted_rev : ItemValues → Option MainCommand
+get_deleted_rev params = do
+  (path, rest) ← string_first params
+  (peg, rest) ← number_first rest
+  (end, _) ← number_first rest
+  Some (Read (History (GetDeletedRev (record { path = path; peg = peg; end = end }))))
+
+-- the names of the commands, as any client sends them
 abbrev pub command_names : List (List ℕ × CommandName)
 command_names =
     (codes "get-latest-rev", names.GetLatestRev)
@@ -254,9 +273,25 @@ command_names =
     ∷ (codes "status", names.Status)
     ∷ []
 
--- the command that has this name
-abbrev pub main_command_name : List ℕ → Option CommandName
-main_command_name = named command_names
+-- the names of those that clients of today alone send
+abbrev pub names_of_today : List (List ℕ × CommandName)
+names_of_today =
+    (codes "get-location-segments", names.GetLocationSegments)
+    ∷ (codes "get-deleted-rev", names.GetDeletedRev)
+    ∷ []
+
+-- the command of this name, for a client of today: to another it is unknown
+abbrev pub name_of_today : Bool → List ℕ → Option CommandName
+name_of_today is_of_today name = if is_of_today then named names_of_today name else None
+
+abbrev pub known_or_of_today : Bool → List ℕ → Option CommandName → Option CommandName
+known_or_of_today is_of_today name (Some known) = Some known
+known_or_of_today is_of_today name None = name_of_today is_of_today name
+
+-- the command that has this name, for a client of today or for another
+abbrev pub main_command_name : Bool → List ℕ → Option CommandName
+main_command_name is_of_today name =
+    known_or_of_today is_of_today name (named command_names name)
 
 -- the command of a name and its parameters, if they are of its form
 abbrev pub main_command_with : CommandName → ItemValues → Option MainCommand
@@ -279,17 +314,20 @@ main_command_with names.ChangeRevProp2 params = change_rev_prop2 params
 main_command_with names.Reparent params = reparent params
 main_command_with names.Log params = log_command params
 main_command_with names.GetLocations params = get_locations params
+main_command_with names.GetLocationSegments params = get_location_segments params
+main_command_with names.GetDeletedRev params = get_deleted_rev params
 main_command_with names.Update params = option_map (λ r. Drive (Update r)) (update params)
 main_command_with names.Switch params = option_map (λ p. Drive (Switch p.0 p.1)) (switch params)
 main_command_with names.Status params = option_map (λ r. Drive (Status r)) (status params)
 
 -- the command of a name and its parameters, or why there is none
-abbrev pub main_command_named : List ℕ → ItemValues → Result MainCommand CommandFault
-main_command_named name params =
+abbrev pub main_command_named : Bool → List ℕ → ItemValues → Result MainCommand CommandFault
+main_command_named is_of_today name params =
     option_map_or (λ known. ok_or (main_command_with known params) BadParameters)
-    (main_command_name name) (Err UnknownName)
+    (main_command_name is_of_today name) (Err UnknownName)
 
--- the command that an item is, or why it is none
-abbrev pub main_command : ItemValue → Result MainCommand CommandFault
-main_command item =
-    option_map_or (λ form. main_command_named form.0 form.1) (command_form item) (Err BadParameters)
+-- the command that an item is, of a client of today or of another, or why it is none
+abbrev pub main_command : Bool → ItemValue → Result MainCommand CommandFault
+main_command is_of_today item =
+    option_map_or (λ form. main_command_named is_of_today form.0 form.1) (command_form item)
+    (Err BadParameters)

@@ -5,6 +5,7 @@ ghost use Rattle.wire_forms.specs.Answering.{Answers, Reads};
 ghost use Rattle.commands.specs.Commands.{main_command, main_command_name, main_command_with, check_path, rev_proplist, locks_first, properties_at_end, commit};
 ghost use Rattle.commands.specs.Commands.{lock, unlock, get_lock, get_locks, path_first, get_file, get_dir, has_fields, stat, get_dated_rev, rev_prop};
 ghost use Rattle.commands.specs.Commands.{change_rev_prop, change_rev_prop2, previous_value, reparent, limit_at_end, log_command, get_locations};
+ghost use Rattle.commands.specs.Commands.{get_deleted_rev, get_location_segments, name_of_today};
 
 use crate::login::are_words;
 use byte_string::ByteString;
@@ -105,6 +106,36 @@ pub struct GetLocationsCommand {
     pub revisions: Numbers,
 }
 
+/// What a `get-location-segments` asks for.
+#[derive(Drop)]
+pub struct GetLocationSegmentsCommand {
+    pub path: ByteString,
+    /// The revision in which the path is meant, or `None` for the youngest.
+    pub peg: Option<u64>,
+    /// The newest revision of the segments, or `None` for the youngest.
+    pub start: Option<u64>,
+    /// The oldest revision of the segments, or `None` for revision 0.
+    pub end: Option<u64>,
+}
+
+/// What a `get-deleted-rev` asks for.
+#[derive(Drop)]
+pub struct GetDeletedRevCommand {
+    pub path: ByteString,
+    /// The revisions between which it was taken away, in either order.
+    pub peg: u64,
+    pub end: u64,
+}
+
+/// A command of clients of today alone that reads the history of a path, with its parameters.
+#[derive(Drop)]
+pub enum HistoryCommand {
+    /// Where something was, stretch by stretch: `( get-location-segments ( path [ peg ] [ start ] [ end ] ) )`.
+    GetLocationSegments(GetLocationSegmentsCommand),
+    /// In which revision something was taken away: `( get-deleted-rev ( path peg end ) )`.
+    GetDeletedRev(GetDeletedRevCommand),
+}
+
 /// A command that only reads the repository, with its parameters.
 #[derive(Drop)]
 pub enum ReadCommand {
@@ -135,6 +166,8 @@ pub enum ReadCommand {
     Log(LogCommand),
     /// Where something was in other revisions: `( get-locations ( path peg-rev ( rev ... ) ) )`.
     GetLocations(GetLocationsCommand),
+    /// Reads the history of a path for a client of today.
+    History(HistoryCommand),
 }
 
 /// A command that begins a report of what the client has, which a drive answers.
@@ -176,12 +209,16 @@ pub enum MainCommand {
 }
 
 impl MainCommand {
-    /// Reads the command that an item is.
-    pub fn from_item(alloc: Global, item: &Item) -> Result<MainCommand, CommandFault>
-        ensures { Answers result (main_command (value_of item.now)) }
+    /// Reads the command that an item is, of a client of today or of another, to which some commands are unknown.
+    pub fn from_item(
+        alloc: Global,
+        is_of_today: bool,
+        item: &Item,
+    ) -> Result<MainCommand, CommandFault>
+        ensures { Answers result (main_command is_of_today (value_of item.now)) }
     {
         let (name, params) = read_form(item).ok_or(BadParameters)?;
-        let name = main_command_name(name).ok_or(UnknownName)?;
+        let name = main_command_name(is_of_today, name).ok_or(UnknownName)?;
         read_command(alloc, name, params)
     }
 }
@@ -208,12 +245,14 @@ pub enum CommandName {
     Reparent,
     Log,
     GetLocations,
+    GetLocationSegments,
+    GetDeletedRev,
     Update,
     Switch,
     Status,
 }
 
-/// The names of the commands, as they are sent.
+/// The names of the commands, as any client sends them.
 const COMMAND_NAMES: [(&[u8], CommandName); 22] = [
     (b"get-latest-rev", CommandName::GetLatestRev),
     (b"check-path", CommandName::CheckPath),
@@ -239,11 +278,31 @@ const COMMAND_NAMES: [(&[u8], CommandName); 22] = [
     (b"status", CommandName::Status),
 ];
 
-/// Finds the command that has this name.
-fn main_command_name(name: &[u8]) -> Option<CommandName>
-    ensures { result ≡ main_command_name name.now }
+/// The names of those that clients of today alone send.
+const NAMES_OF_TODAY: [(&[u8], CommandName); 2] = [
+    (b"get-location-segments", CommandName::GetLocationSegments),
+    (b"get-deleted-rev", CommandName::GetDeletedRev),
+];
+
+/// Finds the command of this name that clients of today alone send, for a client of today or for another.
+fn name_of_today(is_of_today: bool, name: &[u8]) -> Option<CommandName>
+    ensures { result ≡ name_of_today is_of_today name.now }
 {
-    named(&COMMAND_NAMES, name)
+    if is_of_today {
+        named(&NAMES_OF_TODAY, name)
+    } else {
+        None
+    }
+}
+
+/// Finds the command that has this name, for a client of today or for another.
+fn main_command_name(is_of_today: bool, name: &[u8]) -> Option<CommandName>
+    ensures { result ≡ main_command_name is_of_today name.now }
+{
+    match named(&COMMAND_NAMES, name) {
+        Some(known) => Some(known),
+        None => name_of_today(is_of_today, name),
+    }
 }
 
 /// Reads the command of a name that is known.
@@ -274,6 +333,8 @@ fn read_command(
         CommandName::Reparent => read_reparent(params),
         CommandName::Log => read_log(alloc, params),
         CommandName::GetLocations => read_get_locations(alloc, params),
+        CommandName::GetLocationSegments => read_get_location_segments(params),
+        CommandName::GetDeletedRev => read_get_deleted_rev(params),
         CommandName::Update => Ok(MainCommand::Drive(DriveCommand::Update(read_update(params)?))),
         CommandName::Switch => {
             let (request, url) = read_switch(params)?;
@@ -562,4 +623,38 @@ fn read_get_locations(alloc: Global, params: &[Item]) -> Result<MainCommand, Com
         peg,
         revisions: read_numbers(alloc, revisions)?,
     })))
+}
+
+/// Reads `( path [ peg ] [ start ] [ end ] )`.
+fn read_get_location_segments(params: &[Item]) -> Result<MainCommand, CommandFault>
+    ensures { Reads result (get_location_segments (values_of params.now)) }
+{
+    let (path, rest) = read_string(params).ok_or(BadParameters)?;
+    let (peg, rest) = read_revision(rest).ok_or(BadParameters)?;
+    let (start, rest) = read_revision(rest).ok_or(BadParameters)?;
+    let (end, _) = read_revision(rest).ok_or(BadParameters)?;
+    Ok(MainCommand::Read(ReadCommand::History(HistoryCommand::GetLocationSegments(
+        GetLocationSegmentsCommand {
+            path: path.clone()?,
+            peg,
+            start,
+            end,
+        },
+    ))))
+}
+
+/// Reads `( path peg end )`.
+fn read_get_deleted_rev(params: &[Item]) -> Result<MainCommand, CommandFault>
+    ensures { Reads result (get_deleted_rev (values_of params.now)) }
+{
+    let (path, rest) = read_string(params).ok_or(BadParameters)?;
+    let (peg, rest) = read_number(rest).ok_or(BadParameters)?;
+    let (end, _) = read_number(rest).ok_or(BadParameters)?;
+    Ok(MainCommand::Read(ReadCommand::History(HistoryCommand::GetDeletedRev(
+        GetDeletedRevCommand {
+            path: path.clone()?,
+            peg,
+            end,
+        },
+    ))))
 }

@@ -5,7 +5,8 @@ mod command;
 mod login;
 
 pub use command::{
-    CommandName, CommitCommand, DriveCommand, GetDirCommand, GetFileCommand, GetLocationsCommand,
-    LockCommand, LogCommand, MainCommand, ReadCommand, UnlockCommand,
+    CommandName, CommitCommand, DriveCommand, GetDeletedRevCommand, GetDirCommand, GetFileCommand,
+    GetLocationSegmentsCommand, GetLocationsCommand, HistoryCommand, LockCommand, LogCommand,
+    MainCommand, ReadCommand, UnlockCommand,
 };
 pub use login::{AuthResponse, ClientGreeting, challenge_answer};

@@ -1,5 +1,5 @@
 //! What becomes of an entry's properties.
-ghost use Rattle.std.specs.Prelude.{◌≡◌, ◌==◌, ◌++◌, Decides, IfOk, length, map};
+ghost use Rattle.std.specs.Prelude.{◌≡◌, ◌++◌, Decides, IfOk, map};
 ghost use Rattle.drive_rules.specs.Steps.{is_entry_property, property_values};
 ghost use Rattle.drive_news.specs.{News.{is_told, names_in_both, property_changes}, Parts.changes_named};
 
@@ -22,13 +22,6 @@ fn is_told(old: &Properties, new: &Properties, name: &ByteString) -> bool
     ensures { result ≡ is_told old.now new.now name.now }
 {
     !is_entry_property(name.as_slice()) && !is_same_value(old.get(name), new.get(name))
-}
-
-/// Says whether there are no properties.
-fn are_none(properties: &Properties) -> bool
-    ensures { result ≡ (length properties.now == 0) }
-{
-    properties.iter().next().is_none()
 }
 
 /// Makes the properties that stand in one or the other.
@@ -69,7 +62,7 @@ pub(crate) fn with_property_changes(
 ) -> Result<PropertyChanges, AllocError>
     ensures { IfOk result (λ more. more ≡ changes ++ property_changes old.now new.now) }
 {
-    if are_none(old) && are_none(new) {
+    if old.is_empty() && new.is_empty() {
         return Ok(changes);
     }
     let names = in_both(old, new)?;

@@ -9,6 +9,7 @@ use byte_string::ByteString;
 use drive_reports::Purpose;
 use repo_api::FileText;
 use std::alloc::{AllocError, Global};
+use std::mem::drop;
 use svndiff0::{HEADER, put_window};
 use wire_edits::EditorCommand;
 use wire_replies::ReplySink;
@@ -74,7 +75,7 @@ fn say_windows<S: ReplySink>(
     Ok(())
 }
 
-/// Writes a text.
+/// Writes a text whose bytes are in memory.
 fn say_text<S: ReplySink>(
     alloc: Global,
     token: &ByteString,
@@ -145,6 +146,21 @@ fn say_sent<S: ReplySink>(
 {
     match text {
         None => Ok(()),
-        Some(text) => say_text(alloc, token, text.as_slice(), out),
+        Some(text) => say_loaded(alloc, token, text, out),
     }
+}
+
+/// Writes a text, which is read whole before.
+fn say_loaded<S: ReplySink>(
+    alloc: Global,
+    token: &ByteString,
+    text: &FileText,
+    out: &mut S,
+) -> Result<(), AllocError>
+    ensures { Sends result (S.writes out.old out.new) (text_commands token.now (Some text.now)) }
+{
+    let loaded = out.load(alloc, text)?;
+    let said = say_text(alloc, token, loaded.as_slice(), out);
+    drop(loaded);
+    said
 }

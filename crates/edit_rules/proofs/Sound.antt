@@ -21,7 +21,7 @@ use Rattle.wire_edits.specs.declared.editing.EditorCommand.TheVariants.{TextDelt
 use Rattle.wire_edits.specs.{declared.editing.AddedEntry.AddedEntry, declared.editing.OpenedEntry.OpenedEntry, declared.editing.DeletedEntry.DeletedEntry}
 use Rattle.wire_edits.specs.declared.editing.PropertyChange.{PropertyChange}
 use Rattle.edit_rules.specs.Tokens.{Tokens, with_token, without_token, with_change, opened_under, path_of, copies_under, closed_beneath}
-use Rattle.edit_rules.specs.{Edits.{EditState, standing, created, open_in, file_text}, Refusing.{unless, directory_refusal, add_refusal, age_refusal}}
+use Rattle.edit_rules.specs.{Edits.{EditState, standing, created, open_in}, Refusing.{unless, directory_refusal, add_refusal, age_refusal}}
 use Rattle.edit_rules.specs.Refusing.{file_refusal, opening_refusal, place_refusal, source_of, room_refusal, source_refusal, adding_refusal, open_root_refusal}
 use Rattle.edit_rules.specs.Refusing.{before_root, delete_entry_refusal, add_entry_refusal, open_directory_refusal, open_file_refusal, begin_delta_refusal, edit_refusal}
 use Rattle.edit_rules.specs.{Refusing.command_refusal, Editor.{OpensRoot, Edits, Named, Opens, opened_directory, copy_edit, added_edit, added_opened}}
@@ -86,9 +86,9 @@ opens_file old new entry sound none (p, named, is) =
     let kind = first_none (place_refusal old entry.parent entry.token p) (file_refusal (standing old.txn p) age) here in
     subst IsSoundEdit (sym is) (opened_file_in old.path old.txn old.tokens entry.token p age sound kind.1)
 
-begins_delta : (old new : EditState) (token : List ℕ) (checksum : Option (List ℕ)) → IsSoundEdit old → begin_delta_refusal old checksum (open_in old.txn old.tokens token) ≡ None → BeginsDelta old token new → IsSoundEdit new
-begins_delta old new token checksum sound none (o, at, is) =
-    subst IsSoundEdit (sym is) (begun_delta_in old.path old.txn old.tokens token old checksum o (file_text old (path_of o)) none at sound)
+begins_delta : (old new : EditState) (token : List ℕ) (checksum : Option (List ℕ)) → IsSoundEdit old → begin_delta_refusal old checksum (open_in old.txn old.tokens token) ≡ None → BeginsDelta ⊥ old token new → IsSoundEdit new
+begins_delta old new token checksum sound none (o, at, (base, read, is)) =
+    subst IsSoundEdit (sym is) (begun_delta_in old.path old.txn old.tokens token old checksum o base none at sound)
 
 feeds_delta : (old new : EditState) (token bytes : List ℕ) → IsSoundEdit old → FeedsDelta old token bytes new → IsSoundEdit new
 feeds_delta old new token bytes sound (p, a, at, is) =
@@ -273,7 +273,7 @@ module _ (begins : (t : Tree) → IsTree t → IsTree (begun t))
       after c old new op tokens a trees rests sound (right_text c old token op sound (p, r, in_transaction old a.before token (File p (Reading r)) a.had at, (text, is_text, refl)))
       (all_changed (StandsIn (edited (trees_in c.revisions) t op)) (is_at (slice_cmp nat_cmp token)) old.tokens (File p Ended) (stays (File p Ended) (file, tt)) others)
 
-  by_command : (c : RepoState) (old new : EditState) (command : EditorCommand) → AreSound c.revisions → RestsOn old c → IsSoundEdit old → command_refusal c old command ≡ None → Applies c old command new → IsSoundEdit new
+  by_command : (c : RepoState) (old new : EditState) (command : EditorCommand) → AreSound c.revisions → RestsOn old c → IsSoundEdit old → command_refusal c old command ≡ None → Applies ⊥ c old command new → IsSoundEdit new
   by_command c old new (TargetRevision revision) trees rests sound none applies = unchanged old new sound applies
   by_command c old new (OpenRoot revision token) trees rests sound none applies = opens_root c old new revision token trees sound none applies
   by_command c old new (DeleteEntry entry) trees rests sound none applies = deletes_entry c old new entry trees rests sound none applies
@@ -293,5 +293,5 @@ module _ (begins : (t : Tree) → IsTree t → IsTree (begun t))
   by_command c old new CloseEdit trees rests sound none applies = absurd applies
   by_command c old new AbortEdit trees rests sound none applies = absurd applies
 
-  pub goes_on : (c : RepoState) (old new : EditState) (command : EditorCommand) → AreSound c.revisions → RestsOn old c → IsSoundEdit old → edit_refusal c old command ≡ None → Applies c old command new → IsSoundEdit new
+  pub goes_on : (c : RepoState) (old new : EditState) (command : EditorCommand) → AreSound c.revisions → RestsOn old c → IsSoundEdit old → edit_refusal c old command ≡ None → Applies ⊥ c old command new → IsSoundEdit new
   goes_on c old new command trees rests sound none applies = by_command c old new command trees rests sound (not_refused old.refused (command_refusal c old command) none) applies

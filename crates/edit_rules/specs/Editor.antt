@@ -110,10 +110,14 @@ ChangesProperty c old change new =
 abbrev pub unread : List ℕ → Applying
 unread base = record { base = base; reading = read_document base [] }
 
--- the delta is over the file's text as it stands
-abbrev pub BeginsDelta : EditState → List ℕ → EditState → Type 0
-BeginsDelta old token new = Under old token (λ o.
-    new ≡ record old { tokens = with_change old.tokens token (File (path_of o) (Reading (unread (file_text old (path_of o))))) })
+-- what is read for a text: the text, under the premise that what was read is known
+abbrev pub IsReadFor : Type 0 → List ℕ → List ℕ → Type 0
+IsReadFor known text base = known → base ≡ text
+
+-- the delta is over the file's text as it stands, as it was read
+abbrev pub BeginsDelta : Type 0 → EditState → List ℕ → EditState → Type 0
+BeginsDelta known old token new = Under old token (λ o. (base : List ℕ) × IsReadFor known (file_text old (path_of o)) base
+    × (new ≡ record old { tokens = with_change old.tokens token (File (path_of o) (Reading (unread base))) }))
 
 -- of a file whose delta is being read
 abbrev pub ReadsUnder : EditState → List ℕ → (PathValue → Applying → Type 0) → Type 0
@@ -138,31 +142,53 @@ EndsDelta c old token new =
 abbrev pub Closes : EditState → List ℕ → EditState → Type 0
 Closes old token new = new ≡ record old { tokens = without_token old.tokens token }
 
-abbrev pub Applies : RepoState → EditState → EditorCommand → EditState → Type 0
-Applies c old (TargetRevision revision) new = new ≡ old
-Applies c old (OpenRoot revision token) new = OpensRoot c old revision token new
-Applies c old (DeleteEntry entry) new =
+abbrev pub Applies : Type 0 → RepoState → EditState → EditorCommand → EditState → Type 0
+Applies known c old (TargetRevision revision) new = new ≡ old
+Applies known c old (OpenRoot revision token) new = OpensRoot c old revision token new
+Applies known c old (DeleteEntry entry) new =
     Named old entry.path (λ p. Edits c old (edits.Delete p) (closed_beneath old.tokens p) new)
-Applies c old (AddDirectory entry) new = Adds c old false entry new
-Applies c old (AddFile entry) new = Adds c old true entry new
-Applies c old (OpenDirectory entry) new =
+Applies known c old (AddDirectory entry) new = Adds c old false entry new
+Applies known c old (AddFile entry) new = Adds c old true entry new
+Applies known c old (OpenDirectory entry) new =
     Named old entry.path
     (λ p. Opens old entry.token
     (Directory (opened_directory p entry.revision (copies_under old.tokens entry.parent)))
     new)
-Applies c old (OpenFile entry) new =
+Applies known c old (OpenFile entry) new =
     Named old entry.path (λ p. Opens old entry.token (File p NotBegun) new)
-Applies c old (AbsentDirectory entry) new = new ≡ old
-Applies c old (AbsentFile entry) new = new ≡ old
-Applies c old (ChangeDirectoryProperty change) new = ChangesProperty c old change new
-Applies c old (ChangeFileProperty change) new = ChangesProperty c old change new
-Applies c old (ApplyTextDelta token checksum) new = BeginsDelta old token new
-Applies c old (TextDeltaChunk token bytes) new = FeedsDelta old token bytes new
-Applies c old (TextDeltaEnd token) new = EndsDelta c old token new
-Applies c old (CloseDirectory token) new = Closes old token new
-Applies c old (CloseFile token checksum) new = Closes old token new
-Applies c old CloseEdit new = ⊥
-Applies c old AbortEdit new = ⊥
+Applies known c old (AbsentDirectory entry) new = new ≡ old
+Applies known c old (AbsentFile entry) new = new ≡ old
+Applies known c old (ChangeDirectoryProperty change) new = ChangesProperty c old change new
+Applies known c old (ChangeFileProperty change) new = ChangesProperty c old change new
+Applies known c old (ApplyTextDelta token checksum) new = BeginsDelta known old token new
+Applies known c old (TextDeltaChunk token bytes) new = FeedsDelta old token bytes new
+Applies known c old (TextDeltaEnd token) new = EndsDelta c old token new
+Applies known c old (CloseDirectory token) new = Closes old token new
+Applies known c old (CloseFile token checksum) new = Closes old token new
+Applies known c old CloseEdit new = ⊥
+Applies known c old AbortEdit new = ⊥
+
+-- under a premise that says more, a command does no other thing
+pub applies_weaker : {stronger weaker : Type 0} → (weaker → stronger) → (c : RepoState) (old : EditState) (command : EditorCommand) (new : EditState)
+    → Applies stronger c old command new → Applies weaker c old command new
+applies_weaker f c old (TargetRevision revision) new x = x
+applies_weaker f c old (OpenRoot revision token) new x = x
+applies_weaker f c old (DeleteEntry entry) new x = x
+applies_weaker f c old (AddDirectory entry) new x = x
+applies_weaker f c old (AddFile entry) new x = x
+applies_weaker f c old (OpenDirectory entry) new x = x
+applies_weaker f c old (OpenFile entry) new x = x
+applies_weaker f c old (AbsentDirectory entry) new x = x
+applies_weaker f c old (AbsentFile entry) new x = x
+applies_weaker f c old (ChangeDirectoryProperty change) new x = x
+applies_weaker f c old (ChangeFileProperty change) new x = x
+applies_weaker f c old (ApplyTextDelta token checksum) new (o, under, (base, read, is)) = (o, under, (base, (λ known. read (f known)), is))
+applies_weaker f c old (TextDeltaChunk token bytes) new x = x
+applies_weaker f c old (TextDeltaEnd token) new x = x
+applies_weaker f c old (CloseDirectory token) new x = x
+applies_weaker f c old (CloseFile token checksum) new x = x
+applies_weaker f c old CloseEdit new x = x
+applies_weaker f c old AbortEdit new x = x
 
 -- why nothing was made of a command: it is refused, at a path if it is of one, and the edit is given
 -- up, or memory was, and nothing has changed

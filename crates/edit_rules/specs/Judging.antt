@@ -42,11 +42,16 @@ abbrev pub DoneUnless : {T : Type 0} → Result T NotDone → Option Refusal →
     → (EditState → Type 0) → EditState → Type 0
 DoneUnless r refusal old does new = Judges r refusal × OnOk r (does new) × OnErr r (new ≡ old)
 
--- so is what a command does
+-- so is what a command does, under the premise that what was read is known
+abbrev pub CarriesOutBy : {T : Type 0} → Type 0 → Result T NotDone → RepoState → EditState
+    → EditorCommand → EditState → Type 0
+CarriesOutBy known r c old command new =
+    DoneUnless r (command_refusal c old command) old (Applies known c old command) new
+
+-- and of a command for which nothing is read
 abbrev pub CarriesOut : {T : Type 0} → Result T NotDone → RepoState → EditState → EditorCommand
     → EditState → Type 0
-CarriesOut r c old command new =
-    DoneUnless r (command_refusal c old command) old (Applies c old command) new
+CarriesOut r c old command new = CarriesOutBy (Unit {0}) r c old command new
 
 -- so is an entry added at this path, new or a copy of this source
 abbrev pub CarriesOutAdding : {T : Type 0} → Result T NotDone → RepoState → EditState → Bool

@@ -10,13 +10,13 @@ ghost use Rattle.edit_rules.specs.{Editor.{Applies, RestsOn, added_edit, propert
 ghost use Rattle.edit_rules.specs.declared.opened.Opened.{Opened};
 
 /// Shows that an edit that has heard nothing is sound, and so is an edit after each command that is not refused, where
-/// every tree of the repository is a tree.
+/// every tree of the repository is a tree, whatever was read for a text.
 pub fn edits_keep_trees()
     ensures begins { (path : PathValue) (name : List ℕ) (is_of_today : Bool)
         → IsSoundEdit (new_edit path name is_of_today) }
     ensures goes_on { (c : RepoState) (old new : EditState) (command : EditorCommand)
         → AreSound c.revisions → RestsOn old c → IsSoundEdit old → edit_refusal c old command ≡ None
-        → Applies c old command new → IsSoundEdit new }
+        → Applies ⊥ c old command new → IsSoundEdit new }
 {
     repo_laws::beginnings_are_trees();
     repo_laws::edits_keep_trees();

@@ -5,7 +5,7 @@ use Rattle.svndiff0.specs.{Applying.Applying, Document.{read_document, outcome}}
 use Rattle.repo_api.specs.{States.{RepoState, TxnState}, declared.edit.EditOp.EditOp}
 use Rattle.repo_api.specs.declared.edit.EditOp.TheVariants as edits
 use Rattle.edit_rules.specs.{declared.opened.Opened.Opened, declared.opened.Opened.TheVariants.File}
-use Rattle.edit_rules.specs.{declared.opened.DeltaState.TheVariants.{NotBegun, Reading, Ended}, Editor.{BeginsDelta, Edits, EndsDelta, unread}}
+use Rattle.edit_rules.specs.{declared.opened.DeltaState.TheVariants.{NotBegun, Reading, Ended}, Editor.{BeginsDelta, Edits, EndsDelta, IsReadFor, unread}}
 use Rattle.edit_rules.specs.{Edits.{EditState, file_text, open_in}, Refusing.open_under, Tokens.{opened_under, Tokens, with_change}}
 use Rattle.editor.proofs.Steps.{reopened}
 
@@ -19,18 +19,23 @@ is_unread a text is_base is_read =
     let is_reading : a.reading ≡ read_document text [] = is_read ∙ ap (λ (b : List ℕ). read_document b []) is_base in
     λ i. record { base = is_base i; reading = is_reading i }
 
-pub begins : (now old : EditState) (token : List ℕ) (p : PathValue) (a : Applying) (tokens : Tokens) → now ≡ old → open_under old token ≡ Some (File p NotBegun)
-    → (opened_under now.tokens token ≡ Some (File p NotBegun) → tokens ≡ with_change now.tokens token (File p (Reading a))) → a ≡ unread (file_text old p)
-    → BeginsDelta old token (record now { tokens = tokens })
-begins now old token p a tokens same is change is_new =
-    subst (λ (o : EditState). open_under o token ≡ Some (File p NotBegun) → a ≡ unread (file_text o p) → BeginsDelta o token (record now { tokens = tokens })) same here is is_new
+pub begins : (known : Type 0) (now old : EditState) (token : List ℕ) (p : PathValue) (a : Applying) (base : List ℕ) (tokens : Tokens) → now ≡ old
+    → open_under old token ≡ Some (File p NotBegun)
+    → (opened_under now.tokens token ≡ Some (File p NotBegun) → tokens ≡ with_change now.tokens token (File p (Reading a))) → a ≡ unread base
+    → IsReadFor known (file_text old p) base → BeginsDelta known old token (record now { tokens = tokens })
+begins known now old token p a base tokens same is change is_new read =
+    subst (λ (o : EditState). open_under o token ≡ Some (File p NotBegun) → IsReadFor known (file_text o p) base → BeginsDelta known o token (record now { tokens = tokens })) same here is read
   where
-    here : open_under now token ≡ Some (File p NotBegun) → a ≡ unread (file_text now p) → BeginsDelta now token (record now { tokens = tokens })
-    here stands fresh =
+    here : open_under now token ≡ Some (File p NotBegun) → IsReadFor known (file_text now p) base → BeginsDelta known now token (record now { tokens = tokens })
+    here stands is_read =
         let is_under = under now.txn now.tokens token (File p NotBegun) stands in (
           File p NotBegun,
           is_under,
-          ap (λ (ts : Tokens). record now { tokens = ts }) (change is_under ∙ (λ i. with_change now.tokens token (File p (Reading (fresh i))))),
+          (
+            base,
+            is_read,
+            ap (λ (ts : Tokens). record now { tokens = ts }) (change is_under ∙ (λ i. with_change now.tokens token (File p (Reading (is_new i))))),
+          ),
         )
 
 pub ends : (c : RepoState) (old mid now : EditState) (op : EditOp) (token : List ℕ) (p : PathValue) (a : Applying) (text : List ℕ) (tokens : Tokens) → open_under old token ≡ Some (File p (Reading a))

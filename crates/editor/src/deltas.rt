@@ -1,8 +1,8 @@
 //! Texts of files.
 ghost use Rattle.std.specs.{Prelude.{◌≡◌, Some, OnOk, IfOk, IfErr}, Arc.arc_value};
 ghost use Rattle.svnpath.specs.Paths.{PathValue};
-ghost use Rattle.edit_rules.specs.{Editor.{FeedsDelta, RestsOn}, Edits.file_text, Judging.{CarriesOut, Judges, Leaves}, Soundness.IsSoundOn};
-ghost use Rattle.edit_rules.specs.Texts.{MakesTextEdit};
+ghost use Rattle.edit_rules.specs.{Editor.{FeedsDelta, IsReadFor, RestsOn}, Edits.file_text, Judging.{CarriesOut, CarriesOutBy, Judges, Leaves}};
+ghost use Rattle.edit_rules.specs.{Soundness.IsSoundOn, Texts.MakesTextEdit};
 ghost use Rattle.edit_rules.specs.Refusing.{begin_delta_refusal, checksum_refusal, chunk_refusal, close_file_refusal, closed_text_refusal, open_under};
 
 use crate::editor::CommitEditor;
@@ -10,26 +10,44 @@ use byte_string::ByteString;
 use edit_rules::{
     DeltaState, Opened, edits_are_right, feed_under, judge_checksum, set_delta, text_edit_under,
 };
+use file_texts::Texts;
 use refusals::{NotDone, Refusal};
 use repo_api::{EditOp, FileText, Repository};
+use std::alloc::{AllocError, Global};
 use std::sync::Arc;
 use svndiff0::Applier;
 use svnpath::Path;
 use wire_edits::EditorCommand;
 
+/// Reads the bytes of a text.
+fn read_bytes<T: Texts>(
+    alloc: Global,
+    text: &FileText,
+    texts: &mut T,
+) -> Result<Arc<Vec<u8>>, AllocError>
+    ensures reads { T.reads texts.old texts.new }
+    ensures found { IfOk result (λ bytes. IsReadFor (T.is_honest texts.new)
+        text.now (arc_value bytes).items) }
+{
+    let loaded = texts.load(alloc, text)?;
+    loaded.share(alloc)
+}
+
 impl<R: Repository> CommitEditor<R> {
-    /// Begins a text delta over a file's text.
-    pub(crate) fn begin_delta(
+    /// Begins a text delta over a file's text, which is read for it.
+    pub(crate) fn begin_delta<T: Texts>(
         &mut self,
         token: &ByteString,
         checksum: &Option<ByteString>,
         repository: &R,
+        texts: &mut T,
     ) -> Result<(), NotDone>
         requires { RestsOn self.old (R.content repository.now) }
-        ensures { CarriesOut result (R.content repository.now) self.old
+        ensures reads { T.reads texts.old texts.new }
+        ensures done { CarriesOutBy (T.is_honest texts.new) result (R.content repository.now) self.old
             (EditorCommand.ApplyTextDelta token.now checksum.now) self.new }
     {
-        let base = self.base_under(token, checksum, repository)?;
+        let base = self.base_under(token, checksum, repository, texts)?;
         set_delta(
             &mut self.tokens,
             token,
@@ -38,25 +56,26 @@ impl<R: Repository> CommitEditor<R> {
         Ok(())
     }
 
-    /// Gives the text over which a delta may begin, which is not copied.
-    fn base_under(
+    /// Reads the text over which a delta may begin.
+    fn base_under<T: Texts>(
         &self,
         token: &ByteString,
         checksum: &Option<ByteString>,
         repository: &R,
+        texts: &mut T,
     ) -> Result<Arc<Vec<u8>>, NotDone>
         requires { RestsOn self.now (R.content repository.now) }
+        ensures reads { T.reads texts.old texts.new }
         ensures judged { Judges result (begin_delta_refusal self.now checksum.now
             (open_under self.now token.now)) }
         ensures base { IfOk result (λ base. (p : PathValue)
             × (open_under self.now token.now ≡ Some (Opened.File p DeltaState.NotBegun))
-            × ((arc_value base).items ≡ file_text self.now p)) }
+            × IsReadFor (T.is_honest texts.new) (file_text self.now p) (arc_value base).items) }
     {
         match self.open_under(token) {
             Some(Opened::File(path, DeltaState::NotBegun)) => {
-                let base = self.shared_text(path, repository)?;
                 self.judge_text_at(path, checksum, repository)?;
-                Ok(base)
+                Ok(self.read_text(path, repository, texts)?)
             }
             Some(Opened::File(_, DeltaState::Reading(_))) => {
                 Err(NotDone::Refused(Refusal::MalformedData))
@@ -66,6 +85,28 @@ impl<R: Repository> CommitEditor<R> {
             )),
             Some(Opened::Directory(_)) => Err(NotDone::Refused(Refusal::MalformedData)),
             None => Err(NotDone::Refused(Refusal::MalformedData)),
+        }
+    }
+
+    /// Reads the text of the file at a path.
+    fn read_text<T: Texts>(
+        &self,
+        path: &Path,
+        repository: &R,
+        texts: &mut T,
+    ) -> Result<Arc<Vec<u8>>, AllocError>
+        requires { RestsOn self.now (R.content repository.now) }
+        ensures reads { T.reads texts.old texts.new }
+        ensures text { IfOk result (λ text. IsReadFor (T.is_honest texts.new)
+            (file_text self.now path.now) (arc_value text).items) }
+    {
+        let empty = FileText::empty();
+        match &self.txn {
+            None => empty.share(self.alloc),
+            Some(txn) => match repository.text_in(txn.as_txn(), path) {
+                None => empty.share(self.alloc),
+                Some(text) => read_bytes(self.alloc, text, texts),
+            },
         }
     }
 

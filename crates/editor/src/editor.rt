@@ -1,6 +1,6 @@
 //! The editor of a commit.
-ghost use Rattle.std.specs.{Prelude.{◌≡◌, Ok, Err, None, OnErr, OnOk, IfOk, IfErr, IsTrue, MatchResult, option_map, string_bytes}, Arc.arc_value};
-ghost use Rattle.edit_rules.specs.{Editor.{Applies, finished, given_up, NotApplied, RestsOn}, Edits.{base_in, created, file_text, new_edit, standing}};
+ghost use Rattle.std.specs.Prelude.{◌≡◌, Ok, Err, None, OnErr, OnOk, IfOk, IfErr, IsTrue, MatchResult, option_map, string_bytes};
+ghost use Rattle.edit_rules.specs.{Editor.{Applies, finished, given_up, NotApplied, RestsOn}, Edits.{base_in, created, new_edit, standing}};
 ghost use Rattle.edit_rules.specs.{Judging.{is_refused_whole, Judges, KeepsPath, Leaves}, Refused.{added_at, refused_at}};
 ghost use Rattle.edit_rules.specs.{Refusing.{before_root, edit_refusal, open_under}, Soundness.{IsSoundEdit, IsSoundOn}, Tokens.path_of};
 
@@ -8,11 +8,11 @@ use crate::open_txn::OpenTxn;
 use crate::room::EDIT_LIMIT;
 use byte_string::ByteString;
 use edit_rules::{OpenTokens, added_at, has_unfinished, judge, path_refused};
+use file_texts::Texts;
 use refusals::{NotDone, NotDoneAt, Refusal};
-use repo_api::{FileText, NodeKind, Repository};
+use repo_api::{NodeKind, Repository};
 use std::alloc::{AllocError, Global};
 use std::marker::Model;
-use std::sync::Arc;
 use svnpath::Path;
 use wire_edits::{AddedEntry, EditorCommand};
 
@@ -82,16 +82,22 @@ impl<R: Repository> CommitEditor<R> {
     /// Carries a command out. After one that is refused the edit is given up, and each further one is answered
     /// by `EditAborted`. The repository's revisions begin with those that the edit has seen, and the edit's
     /// transaction has a tree in which stands what is open. Memory is refused to an edit that takes some 4 GiB.
-    pub fn apply(&mut self, command: &EditorCommand, repository: &R) -> Result<(), NotDoneAt>
+    pub fn apply<T: Texts>(
+        &mut self,
+        command: &EditorCommand,
+        repository: &R,
+        texts: &mut T,
+    ) -> Result<(), NotDoneAt>
         requires rests { RestsOn self.old (R.content repository.now) }
         requires sound { IsSoundEdit self.old }
+        ensures reads { T.reads texts.old texts.new }
         ensures ok { OnOk result ((edit_refusal (R.content repository.now) self.old command.now ≡ None)
-            × Applies (R.content repository.now) self.old command.now self.new) }
+            × Applies (T.is_honest texts.new) (R.content repository.now) self.old command.now self.new) }
         ensures err { IfErr result (λ fault. NotApplied
             (R.content repository.now) self.old command.now fault self.new) }
     {
         self.take_room(command)?;
-        match self.carry_out(command, repository) {
+        match self.carry_out(command, repository, texts) {
             Ok(()) => Ok(()),
             Err(NotDone::Refused(refusal)) => match self.refused_at(command, refusal) {
                 Ok(path) => Err(self.give_up(refusal, path)),
@@ -153,11 +159,17 @@ impl<R: Repository> CommitEditor<R> {
     }
 
     /// Carries a command out, unless the edit was given up.
-    fn carry_out(&mut self, command: &EditorCommand, repository: &R) -> Result<(), NotDone>
+    fn carry_out<T: Texts>(
+        &mut self,
+        command: &EditorCommand,
+        repository: &R,
+        texts: &mut T,
+    ) -> Result<(), NotDone>
         requires { IsSoundOn self.old (R.content repository.now) }
         ensures judged { Judges result (edit_refusal
             (R.content repository.now) self.old command.now) }
-        ensures ok { OnOk result (Applies
+        ensures reads { T.reads texts.old texts.new }
+        ensures ok { OnOk result (Applies (T.is_honest texts.new)
             (R.content repository.now) self.old command.now self.new) }
         ensures err { IfErr result (λ fault. Leaves self.old fault self.new) }
         ensures path { IfErr result (λ fault. KeepsPath self.old command.now fault self.new) }
@@ -184,7 +196,7 @@ impl<R: Repository> CommitEditor<R> {
                 self.change_file_property(change, repository)
             }
             EditorCommand::ApplyTextDelta(token, checksum) => {
-                self.begin_delta(token, checksum, repository)
+                self.begin_delta(token, checksum, repository, texts)
             }
             EditorCommand::TextDeltaChunk(token, bytes) => self.feed_delta(token, bytes),
             EditorCommand::TextDeltaEnd(token) => self.end_delta(token, repository),
@@ -233,25 +245,6 @@ impl<R: Repository> CommitEditor<R> {
         match &self.txn {
             None => None,
             Some(txn) => Some(txn.base()),
-        }
-    }
-
-    /// Gives the text of the file at a path, which is not copied.
-    pub(crate) fn shared_text(
-        &self,
-        path: &Path,
-        repository: &R,
-    ) -> Result<Arc<Vec<u8>>, AllocError>
-        requires { RestsOn self.now (R.content repository.now) }
-        ensures { IfOk result (λ text. (arc_value text).items ≡ file_text self.now path.now) }
-    {
-        let empty = FileText::empty();
-        match &self.txn {
-            None => empty.share(self.alloc),
-            Some(txn) => match repository.text_in(txn.as_txn(), path) {
-                None => empty.share(self.alloc),
-                Some(text) => text.share(self.alloc),
-            },
         }
     }
 

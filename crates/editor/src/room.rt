@@ -64,12 +64,14 @@ fn strings_weight(command: &EditorCommand) -> usize {
     }
 }
 
-/// Says what a command counts as, in bytes, in an edit whose root has so many names.
+/// Says what a command counts as, in bytes, in an edit whose root has so many names. Of a piece of a delta only the text is
+/// kept that it makes, which counts at the end of the delta, so that it does not matter in how many pieces one is sent.
 fn weight(command: &EditorCommand, names: usize) -> u64 {
     let strings = strings_weight(command).saturating_add(names.saturating_mul(NAME));
     let weight = COMMAND.saturating_add(strings as u64);
     match command {
         EditorCommand::ApplyTextDelta(_, _) => weight.saturating_add(OPEN_DELTA),
+        EditorCommand::TextDeltaChunk(_, _) => 0,
         _ => weight,
     }
 }

@@ -129,9 +129,9 @@ impl<'s, 'e, R: Wait + Clock, H: Halts + Drop> Acceptor<'s, 'e, R, H> {
     }
 
     /// Says whether a connection is on its way to a worker.
-    fn hand_over(&self, stream: TcpStream, number: u64) -> bool {
+    fn hand_over(&self, comes: (TcpStream, SocketAddr), number: u64) -> bool {
         let (alloc, registry) = (self.entrance.alloc, &self.entrance.registry);
-        match caller_of(alloc, registry, stream, number) {
+        match caller_of(alloc, registry, comes, number) {
             Ok(caller) => self.callers.send(self.entrance.rt, caller).is_ok(),
             Err(_) => false,
         }
@@ -148,7 +148,7 @@ impl<'s, 'e, R: Wait + Clock, H: Halts + Drop> Acceptor<'s, 'e, R, H> {
             self.pool.leave(self.entrance.rt);
             return;
         }
-        if !self.hand_over(stream, number) {
+        if !self.hand_over((stream, peer), number) {
             self.pool.leave(self.entrance.rt);
             self.entrance.registry.ends(number);
         }
@@ -255,7 +255,11 @@ impl<'s, 'e, R: Wait + Clock, H: Halts + Drop> Acceptor<'s, 'e, R, H> {
             return false;
         };
         self.left = self.left.saturating_sub(1);
-        self.take(stream, peer);
+        // a listener of IPv6 gives addresses of IPv4 as addresses of its own
+        self.take(
+            stream,
+            SocketAddr::new(peer.ip().to_canonical(), peer.port()),
+        );
         true
     }
 

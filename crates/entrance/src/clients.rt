@@ -3,11 +3,12 @@ ghost use Rattle.std.specs.Io.{ReadsAtMost};
 
 use crate::clock::millis_now;
 use crate::registry::Registry;
+use crate::visitor::Visitor;
 use presence::{Connection, has_gone};
 use session_pool::Caller;
 use std::alloc::{AllocError, Global};
 use std::io::{ErrorKind, Read, Write};
-use std::net::TcpStream;
+use std::net::{SocketAddr, TcpStream};
 use std::sync::{Arc, Wait};
 use std::time::{Clock, Duration};
 use std::{io, thread};
@@ -29,7 +30,7 @@ const REST_TURN: u64 = 100;
 const COMMANDS: usize = 2_048;
 
 /// A client that has come, on its way to a worker.
-pub type Client<'a, R> = Caller<ClientInput<'a, R>, ClientOutput, Connection>;
+pub type Client<'a, R> = Caller<ClientInput<'a, R>, ClientOutput, Visitor<'a, R>>;
 
 /// Sets what each connection has: replies go out at once, and nobody waits for a client for long.
 pub(crate) fn prepare(stream: &TcpStream) -> io::Result<()> {
@@ -42,14 +43,15 @@ pub(crate) fn prepare(stream: &TcpStream) -> io::Result<()> {
 pub(crate) fn caller_of<'a, R>(
     alloc: Global,
     registry: &'a Registry<'a, R>,
-    stream: TcpStream,
+    (stream, peer): (TcpStream, SocketAddr),
     number: u64,
 ) -> Result<Client<'a, R>, AllocError> {
     let stream = Arc::new(alloc, stream)?;
     let output = ClientOutput {
         stream: Arc::try_clone(&stream)?,
     };
-    let client = Connection::new(Arc::try_clone(&stream)?);
+    let connection = Connection::new(Arc::try_clone(&stream)?);
+    let client = Visitor::new(connection, registry, number, peer);
     let input = ClientInput {
         stream,
         registry,

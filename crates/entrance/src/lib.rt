@@ -10,9 +10,11 @@ mod limits;
 mod notes;
 mod refusing;
 mod registry;
+mod visitor;
 
 pub use accepting::{Entrance, Halts, MAX_WAITING, take_all};
 pub use clients::{Client, ClientInput, ClientOutput};
 pub use events::Event;
 pub use limits::too_few_files;
 pub use registry::Registry;
+pub use visitor::Visitor;

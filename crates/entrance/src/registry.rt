@@ -47,11 +47,12 @@ impl<'a, R> Drop for Registry<'a, R> {
     }
 }
 
-/// Makes a number of an IPv4 address; of another it is 0.
-fn number_of(address: IpAddr) -> u32 {
-    match address {
-        IpAddr::V4(address) => address.to_bits(),
-        IpAddr::V6(_) => 0,
+/// Makes a number of an address: of an IPv4 address its bits, also where an IPv6 address has it in it. Of any other IPv6
+/// address it is the first half, since the whole of a network is as easily had as one address of it.
+fn number_of(address: IpAddr) -> u64 {
+    match address.to_canonical() {
+        IpAddr::V4(address) => u64::from(address.to_bits()),
+        IpAddr::V6(address) => (address.to_bits() >> 64) as u64,
     }
 }
 
@@ -104,6 +105,19 @@ impl<'a, R: Clock + Wait> Registry<'a, R> {
         if !self.is_quiet() {
             self.journal.tell(event.text(self.alloc));
         }
+    }
+
+    /// Says whether a line is to be written of what clients do, and where its memory comes from.
+    pub(crate) fn writes_deeds(&self) -> Option<Global> {
+        if self.is_quiet() {
+            return None;
+        }
+        Some(self.alloc)
+    }
+
+    /// Tells what a client has done.
+    pub(crate) fn tell_deed(&self, text: Result<String, AllocError>) {
+        self.journal.tell(text);
     }
 
     /// Counts the sessions of an address.

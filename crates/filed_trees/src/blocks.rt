@@ -1,5 +1,5 @@
 //! The nodes of a revision, read from its file.
-ghost use Rattle.std.specs.Prelude.{Decides, ◌≡◌, ◌++◌, ◌∷◌, [], ℕ, List, Option, Some, None, Ok, All, length, map, reverse, is_some, if◌then◌else◌, IfOk};
+ghost use Rattle.std.specs.Prelude.{◌≡◌, ◌++◌, ◌∷◌, [], ℕ, List, Option, Some, None, Ok, All, length, map, reverse, is_some, if◌then◌else◌, IfOk};
 ghost use Rattle.std.specs.{Arc.arc_value, List.Sorted.IsStrictlySortedBy, Map.keys_of};
 ghost use Rattle.svnpath.specs.Paths.{path_cmp};
 ghost use Rattle.repo_api.specs.States.{ChangeMap};
@@ -77,13 +77,6 @@ fn directory_like(alloc: Global, earlier: Option<Earlier<'_>>) -> Result<Arc<Con
     }
 }
 
-/// Says whether there are no properties.
-fn are_none(properties: &Properties) -> bool
-    ensures { Decides result (properties.now ≡ []) }
-{
-    properties.iter().next().is_none()
-}
-
 /// Shares the properties of the predecessor, if it has none, or else these, which are none.
 fn none_like(
     none: &Arc<Properties>,
@@ -93,7 +86,7 @@ fn none_like(
     ensures { IfOk result (λ properties. arc_value properties ≡ []) }
 {
     match earlier {
-        Some(earlier) if are_none(&earlier.node.properties) => {
+        Some(earlier) if earlier.node.properties.is_empty() => {
             Ok(Arc::try_clone(&earlier.node.properties)?)
         }
         _ => Ok(Arc::try_clone(none)?),

@@ -9,6 +9,8 @@ mod full_list;
 #[cfg(test)]
 mod nodes;
 #[cfg(test)]
+mod property_lists;
+#[cfg(test)]
 mod revisions;
 #[cfg(test)]
 mod small_files;

@@ -7,8 +7,8 @@ use crate::silence::is_of_login;
 #[derive(Clone, Copy)]
 pub struct Guest {
     pub session: u64,
-    /// The number of its client's IPv4 address.
-    pub address: u32,
+    /// A number of its client's address, the same for all that count as one.
+    pub address: u64,
     /// What it awaits, or has awaited last.
     pub awaited: Awaited,
     /// Whether it waits for its client, and does nothing else.
@@ -27,7 +27,7 @@ pub struct Guest {
 
 impl Guest {
     /// Makes the guest of a session that begins.
-    pub(crate) fn new(session: u64, address: u32, now: u64) -> Self {
+    pub(crate) fn new(session: u64, address: u64, now: u64) -> Self {
         Guest {
             session,
             address,

@@ -33,7 +33,7 @@ fn place_of(present: &[Guest], session: u64) -> Option<usize>
 }
 
 /// Counts the guests of an address.
-fn count_of(present: &[Guest], address: u32) -> u64 {
+fn count_of(present: &[Guest], address: u64) -> u64 {
     let mut count = 0;
     for guest in present {
         if guest.address == address {
@@ -95,12 +95,12 @@ impl Guests {
     }
 
     /// Counts the sessions of an address.
-    pub fn count_of(&self, address: u32) -> u64 {
+    pub fn count_of(&self, address: u64) -> u64 {
         count_of(self.present.as_slice(), address)
     }
 
     /// Notes that a session of an address begins, whose number is above those of all others.
-    pub fn come(&mut self, session: u64, address: u32, now: u64) -> Result<(), AllocError> {
+    pub fn come(&mut self, session: u64, address: u64, now: u64) -> Result<(), AllocError> {
         let guest = Guest::new(session, address, now);
         self.present.push(guest).map_err(AllocError::from)
     }

@@ -67,7 +67,7 @@ last_within P p [] first all = first
 last_within P p (q ∷ ps) first all = last_within P q ps (All-head P q ps all) (All-tail P q ps all)
 
 -- a line begins at the place itself, or in an older revision
-starts_here_or_below : (h : History) (p : Place) → (line_start h p ≡ p) ⊎ ((line_start h p).revision < p.revision)
+pub starts_here_or_below : (h : History) (p : Place) → (line_start h p ≡ p) ⊎ ((line_start h p).revision < p.revision)
 starts_here_or_below h p =
     by (trace_below h false p.revision (next_place false (h p.revision) p)) (below h false p.revision (next_place false (h p.revision) p)) (ap (last_place p) (trace_is h false p))
   where

@@ -30,7 +30,7 @@ never false not_so = refl
 of_each : (changes : List Changed) (P : Changed → Type 0) → ((e : Changed) → Contains changes e → P e) → All P changes
 of_each changes P each = All-weaker (Contains changes) P each changes (All-contains_itself changes)
 
-none_decides : (changes : List Changed) (p : PathValue) → IsQuiet changes p → deciding_change changes p ≡ None
+pub none_decides : (changes : List Changed) (p : PathValue) → IsQuiet changes p → deciding_change changes p ≡ None
 none_decides changes p quiet =
     none_found (decides p) (reverse changes)
     (reversed (λ e. decides p e ≡ false) changes
@@ -69,7 +69,7 @@ place_earlier strict changes p n undecided =
     fewer : suc n - 1 ≡ n
     fewer = omega arith
 
-trace_undecided : (h : History) (strict : Bool) (p : PathValue) (n : ℕ) → deciding_change (h (suc n)) p ≡ None
+pub trace_undecided : (h : History) (strict : Bool) (p : PathValue) (n : ℕ) → deciding_change (h (suc n)) p ≡ None
     → trace h strict (place_at (suc n) p) ≡ place_at (suc n) p ∷ trace h strict (place_at n p)
 trace_undecided h strict p n undecided =
     trace_is h strict (place_at (suc n) p) ∙ ap (λ o. place_at (suc n) p ∷ trace_below h strict (suc n) o) (place_earlier strict (h (suc n)) p n undecided)

@@ -28,4 +28,4 @@ pub use locating::{each_once, location, locations};
 pub use log::Log;
 pub use log_ask::LogAsk;
 pub use traces::Place;
-pub use walk::{next_listed, step_back};
+pub use walk::{ask_on, next_listed, step_back};

@@ -34,7 +34,7 @@ fn only_below(place: Option<Place>, revision: u64) -> Option<Place>
 
 /// Asks the repository for the names of what exists in revision 0, which are none. One that is given up, as its client has
 /// gone, answers as where memory runs out: so a walk ends that finds nothing for long.
-pub(crate) fn ask_on<R: Repository>(alloc: Global, repository: &R) -> Result<(), AllocError> {
+pub fn ask_on<R: Repository>(alloc: Global, repository: &R) -> Result<(), AllocError> {
     drop(repository.names(0, &Path::root(alloc))?);
     Ok(())
 }

@@ -232,7 +232,8 @@ impl<A: SoleAccess> Hub<A> {
         piece: &[u8],
         turn: &mut Turn<S>,
     ) -> Result<(), AllocError>
-        requires { Finds self.old.sessions number i }
+        requires found { Finds self.old.sessions number i }
+        requires held { (out : S) → S.is_honest out }
         ensures ok { OnOk result ((told : List ℕ)
             × Feeds self.old turn.old.env number piece.now told self.new
             × S.writes turn.old.out turn.new.out told) }
@@ -267,13 +268,15 @@ impl<A: SoleAccess> Hub<A> {
     }
 
     /// Feeds a piece of what a client sends to its session, and writes what it is answered as it is made. Where the
-    /// sink fails, the session has ended as for want of memory, and the sink has its own fault.
+    /// sink fails, the session has ended as for want of memory, and the sink has its own fault. It reads of each text
+    /// what is known of it.
     pub fn feed_to<S: ReplySink>(
         &mut self,
         number: SessionId,
         piece: &[u8],
         turn: &mut Turn<S>,
     ) -> Result<(), HubFault>
+        requires held { (out : S) → S.is_honest out }
         ensures { FedTo result self.old turn.old.env number piece.now self.new
             (S.writes turn.old.out turn.new.out) }
     {

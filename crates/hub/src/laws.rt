@@ -67,7 +67,7 @@ pub fn nothing_else_is_asked_for()
         → (user ≡ edit.client.user) × (tokens ≡ edit.asked.tokens) }
     ensures property { (s : Settings) (env : Env) (client : Client) (t : ItemValue) (ask : PropertyAsk)
         → IsAsked s env (Serving client) (Whole t) (ChangesProperty ask)
-        → (s.revprops ≡ true) × (main_command t ≡ Ok (ChangeRevProp ask)) }
+        → (s.revprops ≡ true) × (main_command client.is_of_today t ≡ Ok (ChangeRevProp ask)) }
     ensures within_edit { (s : Settings) (env : Env) (edit : MachineEdit) (t : ItemValue) (ask : PropertyAsk)
         → IsAsked s env (Editing edit) (Whole t) (ChangesProperty ask) → ⊥ }
     ensures login { (s : Settings) (env : Env) (login : OpenLogin) (t : ItemValue) (e : Accepted)

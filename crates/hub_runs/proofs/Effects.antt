@@ -353,7 +353,7 @@ does_known false halted s env c client command a step =
     (own halted s env c client command) step)
 
 does_main : (halted : Bool) (s : Settings) (env : Env) (c : RepoState) (client : Client) (t : ItemValue) (r : Result MainCommand CommandFault) (a : Answer)
-    → main_command t ≡ r → MainStep s env client r halted c a → Does (IsAsked s env (Serving client) (Whole t)) s.revprops halted env c a
+    → main_command client.is_of_today t ≡ r → MainStep s env client r halted c a → Does (IsAsked s env (Serving client) (Whole t)) s.revprops halted env c a
 does_main halted s env c client t (Ok command) a named step =
     does_as (λ e. (wants_user s client command ≡ false) × IsAskedBy s.revprops env client command e) (IsAsked s env (Serving client) (Whole t)) a
     (λ e one. (command, named, one.0, one.1))
@@ -521,7 +521,7 @@ does_close halted env c edit (Err r) a txn is = quiet a _ is (refl, refl, refl)
 -- ---- an edit
 
 does_edit : {P : Accepted → Type 0} {may halted : Bool} (env : Env) (c : RepoState) (edit : MachineEdit) (command : EditorCommand) (r : Option Refusal) (a : Answer)
-    → JudgedEdit env c edit command r a → Does P may halted env c a
+    → JudgedEdit (Unit {0}) env c edit command r a → Does P may halted env c a
 does_edit env c edit command None a (after, applies, is) = quiet a _ is (refl, refl, refl)
 does_edit env c edit command (Some r) a is = quiet a _ is (refl, refl, refl)
 
@@ -533,7 +533,7 @@ closes : {may halted : Bool} (s : Settings) (env : Env) (c : RepoState) (edit : 
 closes s env c edit t a named d = does_as (IsOfEdit env edit) (IsAsked s env (Editing edit) (Whole t)) a (λ e one. (named, one)) d
 
 does_command : {may : Bool} (halted : Bool) (s : Settings) (env : Env) (c : RepoState) (edit : MachineEdit) (t : ItemValue) (command : EditorCommand) (a : Answer)
-    → editor_command t ≡ Ok command → CommandStep env edit command (ending_of command) halted c a → InEdit s may halted env c edit t a
+    → editor_command t ≡ Ok command → CommandStep (Unit {0}) env edit command (ending_of command) halted c a → InEdit s may halted env c edit t a
 does_command halted s env c edit t (edits.TargetRevision revision) a named step = does_edit env c edit (edits.TargetRevision revision) _ a step
 does_command halted s env c edit t (edits.OpenRoot revision token) a named step = does_edit env c edit (edits.OpenRoot revision token) _ a step
 does_command halted s env c edit t (edits.DeleteEntry entry) a named step = does_edit env c edit (edits.DeleteEntry entry) _ a step
@@ -554,7 +554,7 @@ does_command halted s env c edit t edits.CloseEdit a named step = closes s env c
 does_command halted s env c edit t edits.AbortEdit a named is = quiet a _ is (refl, refl, refl)
 
 does_editing : {may : Bool} (halted : Bool) (s : Settings) (env : Env) (c : RepoState) (edit : MachineEdit) (t : ItemValue) (r : Result EditorCommand CommandFault) (a : Answer)
-    → editor_command t ≡ r → EditingStep env edit r halted c a → InEdit s may halted env c edit t a
+    → editor_command t ≡ r → EditingStep (Unit {0}) env edit r halted c a → InEdit s may halted env c edit t a
 does_editing halted s env c edit t (Ok command) a named step = does_command halted s env c edit t command a named step
 does_editing halted s env c edit t (Err UnknownName) a named is = quiet a _ is (refl, refl, refl)
 does_editing halted s env c edit t (Err BadParameters) a named is = quiet a _ is (refl, refl, refl)
@@ -567,7 +567,7 @@ pub does : (halted : Bool) (s : Settings) (env : Env) (c : RepoState) (phase : S
 does halted s env c Greeted (Whole t) a is = quiet a _ is (quiet_greeting s env (client_greeting t))
 does halted s env c (LoggingIn login) (Whole t) a step = does_login halted s env c login t (auth_response t) a step
 does halted s env c (Challenged pending) (Whole t) a step = does_challenge halted s env c pending t (challenge_answer t) a refl step
-does halted s env c (Serving client) (Whole t) a step = does_main halted s env c client t (main_command t) a refl step
+does halted s env c (Serving client) (Whole t) a step = does_main halted s env c client t (main_command client.is_of_today t) a refl step
 does halted s env c (Editing edit) (Whole t) a step = does_editing halted s env c edit t (editor_command t) a refl step
 does halted s env c (Skipping client) (Whole t) a is = quiet a _ is (quiet_skipping env client (ends_edit t))
 does halted s env c (Reporting reporting) (Whole t) a (d, step, is) = quiet a _ is (quiet_drawn env reporting.client d)

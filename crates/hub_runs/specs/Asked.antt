@@ -53,7 +53,7 @@ IsWaiting may env client waiting e =
 -- user's right answer; or by the end of its edit
 abbrev pub IsAsked : Settings → Env → Stage → Input → Accepted → Type 0
 IsAsked s env (Serving client) (Whole t) e =
-    (command : MainCommand) × (main_command t ≡ Ok command)
+    (command : MainCommand) × (main_command client.is_of_today t ≡ Ok command)
     × (wants_user s client command ≡ false) × IsAskedBy s.revprops env client command e
 IsAsked s env (LoggingIn login) (Whole t) e =
     (s.users ≡ None) × IsWaiting s.revprops env login.client login.waiting e

@@ -245,7 +245,7 @@ pub quiet_input : (s : Settings) (halted : Bool) (env : Env) (c : RepoState) (ph
 quiet_input s halted env c Greeted (Whole t) a not is = quiet_is s a _ is (quiet_greeting s env (client_greeting t))
 quiet_input s halted env c (LoggingIn login) (Whole t) a not step = quiet_login s halted env c login (auth_response t) a step
 quiet_input s halted env c (Challenged pending) (Whole t) a not step = quiet_challenge s halted env c pending (challenge_answer t) a step
-quiet_input s halted env c (Serving client) (Whole t) a not step = quiet_main s halted env c client (main_command t) a step
+quiet_input s halted env c (Serving client) (Whole t) a not step = quiet_main s halted env c client (main_command client.is_of_today t) a step
 quiet_input s halted env c (Editing edit) (Whole t) a not step = absurd (not tt)
 quiet_input s halted env c (Skipping client) (Whole t) a not is = quiet_is s a _ is (quiet_skipping s env client (ends_edit t))
 quiet_input s halted env c (Reporting reporting) (Whole t) a not (d, step, is) = quiet_is s a _ is (quiet_drawn s env reporting.client d)

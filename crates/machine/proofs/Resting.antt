@@ -86,30 +86,30 @@ rests_opened c old new tokens r is = rests_at c new old.txn (ap (λ (e : EditSta
 rests_edited : (c : RepoState) (old new : EditState) (op : EditOp) (tokens : Tokens) → EditsTxn c old op tokens new → RestsOn new c
 rests_edited c old new op tokens h = rests_at c new (Some h.after) (ap (λ (e : EditState). e.txn) h.is) (rests_shown c h.after h.edited.shown_now)
 
-rests_applied : (c : RepoState) (old new : EditState) (command : EditorCommand) → RestsOn old c → Applies c old command new → RestsOn new c
-rests_applied c old new (TargetRevision revision) r is = rests_same c old new r is
-rests_applied c old new (OpenRoot revision token) r h = rests_at c new (Some h.txn) (ap (λ (e : EditState). e.txn) h.is) (rests_shown c h.txn h.begun.shown)
-rests_applied c old new (DeleteEntry entry) r (p, named, h) = rests_edited c old new _ _ h
-rests_applied c old new (AddDirectory entry) r h = rests_edited c old new _ _ h.edits
-rests_applied c old new (AddFile entry) r h = rests_edited c old new _ _ h.edits
-rests_applied c old new (OpenDirectory entry) r (p, named, is) = rests_opened c old new _ r is
-rests_applied c old new (OpenFile entry) r (p, named, is) = rests_opened c old new _ r is
-rests_applied c old new (AbsentDirectory entry) r is = rests_same c old new r is
-rests_applied c old new (AbsentFile entry) r is = rests_same c old new r is
-rests_applied c old new (ChangeDirectoryProperty change) r (opened, under, h) = rests_edited c old new _ _ h
-rests_applied c old new (ChangeFileProperty change) r (opened, under, h) = rests_edited c old new _ _ h
-rests_applied c old new (ApplyTextDelta token checksum) r (opened, under, is) = rests_opened c old new _ r is
-rests_applied c old new (TextDeltaChunk token bytes) r (p, a, under, is) = rests_opened c old new _ r is
-rests_applied c old new (TextDeltaEnd token) r (p, a, under, (text, ended, h)) = rests_edited c old new _ _ h
-rests_applied c old new (CloseDirectory token) r is = rests_opened c old new _ r is
-rests_applied c old new (CloseFile token checksum) r is = rests_opened c old new _ r is
-rests_applied c old new CloseEdit r h = absurd h
-rests_applied c old new AbortEdit r h = absurd h
+rests_applied : (known : Type 0) (c : RepoState) (old new : EditState) (command : EditorCommand) → RestsOn old c → Applies known c old command new → RestsOn new c
+rests_applied known c old new (TargetRevision revision) r is = rests_same c old new r is
+rests_applied known c old new (OpenRoot revision token) r h = rests_at c new (Some h.txn) (ap (λ (e : EditState). e.txn) h.is) (rests_shown c h.txn h.begun.shown)
+rests_applied known c old new (DeleteEntry entry) r (p, named, h) = rests_edited c old new _ _ h
+rests_applied known c old new (AddDirectory entry) r h = rests_edited c old new _ _ h.edits
+rests_applied known c old new (AddFile entry) r h = rests_edited c old new _ _ h.edits
+rests_applied known c old new (OpenDirectory entry) r (p, named, is) = rests_opened c old new _ r is
+rests_applied known c old new (OpenFile entry) r (p, named, is) = rests_opened c old new _ r is
+rests_applied known c old new (AbsentDirectory entry) r is = rests_same c old new r is
+rests_applied known c old new (AbsentFile entry) r is = rests_same c old new r is
+rests_applied known c old new (ChangeDirectoryProperty change) r (opened, under, h) = rests_edited c old new _ _ h
+rests_applied known c old new (ChangeFileProperty change) r (opened, under, h) = rests_edited c old new _ _ h
+rests_applied known c old new (ApplyTextDelta token checksum) r (opened, under, (base, read, is)) = rests_opened c old new _ r is
+rests_applied known c old new (TextDeltaChunk token bytes) r (p, a, under, is) = rests_opened c old new _ r is
+rests_applied known c old new (TextDeltaEnd token) r (p, a, under, (text, ended, h)) = rests_edited c old new _ _ h
+rests_applied known c old new (CloseDirectory token) r is = rests_opened c old new _ r is
+rests_applied known c old new (CloseFile token checksum) r is = rests_opened c old new _ r is
+rests_applied known c old new CloseEdit r h = absurd h
+rests_applied known c old new AbortEdit r h = absurd h
 
-rests_edits : (env : Env) (c : RepoState) (edit : MachineEdit) (command : EditorCommand) (r : Option Refusal) (a : Answer)
-    → RestsOn edit.editor c → JudgedEdit env c edit command r a → EditRests a.phase c
-rests_edits env c edit command None a rests (after, applies, is) = rests_is c a _ is (rests_applied c edit.editor after command rests applies)
-rests_edits env c edit command (Some r) a rests is = rests_is c a _ is tt
+rests_edits : (known : Type 0) (env : Env) (c : RepoState) (edit : MachineEdit) (command : EditorCommand) (r : Option Refusal) (a : Answer)
+    → RestsOn edit.editor c → JudgedEdit known env c edit command r a → EditRests a.phase c
+rests_edits known env c edit command None a rests (after, applies, is) = rests_is c a _ is (rests_applied known c edit.editor after command rests applies)
+rests_edits known env c edit command (Some r) a rests is = rests_is c a _ is tt
 
 rests_made : (c : RepoState) (client : Client) (fails : Bool) → EditRests (if fails then Ended else Serving client) c
 rests_made c client true = tt
@@ -133,18 +133,18 @@ rests_close halted env c client asked (Ok t) a (date, is_date, step) =
     rests_commit halted env c client (commit_ask client asked date) t (commit_refusal c (commit_ask client asked date) t) a step
 rests_close halted env c client asked (Err r) a is = rests_is c a _ is tt
 
-rests_told : (halted : Bool) (env : Env) (c : RepoState) (edit : MachineEdit) (command : EditorCommand) (ending : Option Ending) (a : Answer)
-    → RestsOn edit.editor c → CommandStep env edit command ending halted c a → EditRests a.phase c
-rests_told halted env c edit command None a rests step = rests_edits env c edit command (edit_refusal c edit.editor command) a rests step
-rests_told halted env c edit command (Some ToCommit) a rests step = rests_close halted env c edit.client edit.asked (finished edit.editor) a step
-rests_told halted env c edit command (Some GivesUp) a rests is = rests_is c a _ is tt
+rests_told : (known : Type 0) (halted : Bool) (env : Env) (c : RepoState) (edit : MachineEdit) (command : EditorCommand) (ending : Option Ending) (a : Answer)
+    → RestsOn edit.editor c → CommandStep known env edit command ending halted c a → EditRests a.phase c
+rests_told known halted env c edit command None a rests step = rests_edits known env c edit command (edit_refusal c edit.editor command) a rests step
+rests_told known halted env c edit command (Some ToCommit) a rests step = rests_close halted env c edit.client edit.asked (finished edit.editor) a step
+rests_told known halted env c edit command (Some GivesUp) a rests is = rests_is c a _ is tt
 
-rests_editing : (halted : Bool) (env : Env) (c : RepoState) (edit : MachineEdit) (r : Result EditorCommand CommandFault) (a : Answer)
-    → RestsOn edit.editor c → EditingStep env edit r halted c a → EditRests a.phase c
-rests_editing halted env c edit (Ok command) a rests step = rests_told halted env c edit command (ending_of command) a rests step
-rests_editing halted env c edit (Err UnknownName) a rests is = rests_is c a _ is tt
-rests_editing halted env c edit (Err BadParameters) a rests is = rests_is c a _ is tt
-rests_editing halted env c edit (Err NoMemory) a rests is = rests_is c a _ is tt
+rests_editing : (known : Type 0) (halted : Bool) (env : Env) (c : RepoState) (edit : MachineEdit) (r : Result EditorCommand CommandFault) (a : Answer)
+    → RestsOn edit.editor c → EditingStep known env edit r halted c a → EditRests a.phase c
+rests_editing known halted env c edit (Ok command) a rests step = rests_told known halted env c edit command (ending_of command) a rests step
+rests_editing known halted env c edit (Err UnknownName) a rests is = rests_is c a _ is tt
+rests_editing known halted env c edit (Err BadParameters) a rests is = rests_is c a _ is tt
+rests_editing known halted env c edit (Err NoMemory) a rests is = rests_is c a _ is tt
 
 -- ---- an input
 
@@ -160,7 +160,7 @@ rests_step halted s env c (Serving client) (Whole t) a rests step = rests_quiet 
 rests_step halted s env c (Skipping client) (Whole t) a rests step = rests_quiet s c a (quiet_input s halted env c (Skipping client) (Whole t) a (λ h. h) step)
 rests_step halted s env c (Reporting reporting) (Whole t) a rests step = rests_quiet s c a (quiet_input s halted env c (Reporting reporting) (Whole t) a (λ h. h) step)
 rests_step halted s env c (Driven client) (Whole t) a rests step = rests_quiet s c a (quiet_input s halted env c (Driven client) (Whole t) a (λ h. h) step)
-rests_step halted s env c (Editing edit) (Whole t) a rests step = rests_editing halted env c edit (editor_command t) a rests step
+rests_step halted s env c (Editing edit) (Whole t) a rests step = rests_editing (Unit {0}) halted env c edit (editor_command t) a rests step
 rests_step halted s env c Greeted Broken a rests step = rests_quiet s c a (quiet_input s halted env c Greeted Broken a (λ h. h) step)
 rests_step halted s env c (LoggingIn login) Broken a rests step = rests_quiet s c a (quiet_input s halted env c (LoggingIn login) Broken a (λ h. h) step)
 rests_step halted s env c (Challenged pending) Broken a rests step = rests_quiet s c a (quiet_input s halted env c (Challenged pending) Broken a (λ h. h) step)
@@ -185,6 +185,12 @@ changes_keep c (e ∷ es) = beginning_trans c.revisions (changed c e).revisions 
 pub rests_on : (halted : Bool) (s : Settings) (env : Env) (c : RepoState) (phase : Stage) (input : Input) (a : Answer) → EditRests phase c → InputStep s env
     phase input halted c a → EditRests a.phase (content_after c a.effect)
 rests_on halted s env c phase input a rests step = rests_trans a.phase c (content_after c a.effect) (rests_step halted s env c phase input a rests step) (changes_keep c a.effect.changes)
+
+-- whatever was read for a text
+pub rests_read : (halted : Bool) (env : Env) (c : RepoState) (edit : MachineEdit) (r : Result EditorCommand CommandFault) (a : Answer) → RestsOn edit.editor c
+    → EditingStep ⊥ env edit r halted c a → EditRests a.phase (content_after c a.effect)
+rests_read halted env c edit r a rests step =
+    rests_trans a.phase c (content_after c a.effect) (rests_editing ⊥ halted env c edit r a rests step) (changes_keep c a.effect.changes)
 
 module _ (rules : AccessRules)
     (keeps : (p q : Point) → rules.between p q → IsBeginning (content_of p).revisions (content_of q).revisions)

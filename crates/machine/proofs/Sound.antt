@@ -11,7 +11,7 @@ use Rattle.repo_api.specs.{States.{IsBeginning, RepoState, Revision, tree_in, tr
 use Rattle.repo_api.specs.{Trees.{is_directory, IsTree}, declared.entry.Entry.Entry, declared.ask.CommitAsk.CommitAsk}
 use Rattle.wire_edits.specs.{Editing.editor_command, declared.editing.EditorCommand.EditorCommand}
 use Rattle.wire_forms.specs.{declared.fault.CommandFault.CommandFault, declared.fault.CommandFault.TheVariants.{UnknownName, BadParameters, NoMemory}}
-use Rattle.edit_rules.specs.{Editor.{Applies, finished, finished_txn, RestsIn, RestsOn}, Edits.{EditState, new_edit}, Refusing.edit_refusal}
+use Rattle.edit_rules.specs.{Editor.{Applies, applies_weaker, finished, finished_txn, RestsIn, RestsOn}, Edits.{EditState, new_edit}, Refusing.edit_refusal}
 use Rattle.edit_rules.specs.{Soundness.{IsSoundEdit, IsSoundIn}, Tokens.{has_unfinished, Tokens}}
 use Rattle.machine.specs.{Settings.Settings, Stages.{Stage, EditRests, EditIsSound, StandsOn}, Soundness.MeetBy, Hearing.Input, Hearing.Input.{Whole, Broken}}
 use Rattle.machine.specs.{Answers.{Verdict, Answer, content_after}, Machine.{InputStep, UnreleasedStep, MachineEdit, JudgedEdit, CommitStep, CloseStep}}
@@ -21,7 +21,7 @@ use Rattle.machine.specs.{declared.commit_parameters.CommitParameters.CommitPara
 use Rattle.machine.specs.declared.ending.Ending.TheVariants.{Commits as ToCommit, GivesUp}
 use Rattle.machine.specs.declared.phase.Phase.TheVariants.{Greeted, LoggingIn, Challenged, Serving, Editing, Skipping, Reporting, Driven, Ended}
 use Rattle.machine.specs.declared.phase.Client.{Client}
-use Rattle.machine.proofs.{Quiet.{HasNewEdit, KeepRevisions, IsQuiet, quiet_input}, Resting.rests_on}
+use Rattle.machine.proofs.{Quiet.{HasNewEdit, KeepRevisions, IsQuiet, quiet_input}, Resting.{rests_on, rests_read}}
 
 trees_more : (rs : List Revision) (r : Revision) → AreTrees rs → IsTree (tree_of r.tree) → AreTrees (rs ++ r ∷ [])
 trees_more [] r trees one = (one, tt)
@@ -96,7 +96,7 @@ sound_made client true = tt
 sound_made client false = tt
 
 module _ (begins : (path : PathValue) (name : List ℕ) (is_of_today : Bool) → IsSoundEdit (new_edit path name is_of_today))
-    (goes_on : (c : RepoState) (old new : EditState) (command : EditorCommand) → AreSound c.revisions → RestsOn old c → IsSoundEdit old → edit_refusal c old command ≡ None → Applies c old command new → IsSoundEdit new)
+    (goes_on : (c : RepoState) (old new : EditState) (command : EditorCommand) → AreSound c.revisions → RestsOn old c → IsSoundEdit old → edit_refusal c old command ≡ None → Applies ⊥ c old command new → IsSoundEdit new)
     (meets : (c : RepoState) (ask : CommitAsk) (t : TxnState) → AreMarked (trees_in c.revisions) → IsTree (trees_in c.revisions (youngest c))
     → IsBeginning t.shown c.revisions → IsMarkedTxn t → IsTree (tree_of t.tree)
     → commit_refusal c ask t ≡ None → MeetWell (trees_in c.revisions) t.base (tree_of t.tree) (youngest c))
@@ -119,10 +119,10 @@ module _ (begins : (path : PathValue) (name : List ℕ) (is_of_today : Bool) →
       let left = kept_leave c a.effect.changes quiet.kept trees in
       (left.0, sound_new s a.phase quiet.new, left.1)
 
-  leaves_edits : (env : Env) (c : RepoState) (edit : MachineEdit) (command : EditorCommand) (r : Option Refusal) (a : Answer)
-      → AreSound c.revisions → RestsOn edit.editor c → IsSoundEdit edit.editor → edit_refusal c edit.editor command ≡ r → JudgedEdit env c edit command r a → LeavesTrees c a
-  leaves_edits env c edit command None a trees rests sound judged (after, applies, is) = leaves_is c a _ is (trees, goes_on c edit.editor after command trees rests sound judged applies, tt)
-  leaves_edits env c edit command (Some r) a trees rests sound judged is = leaves_is c a _ is (trees, tt, tt)
+  leaves_edits : (known : Type 0) (env : Env) (c : RepoState) (edit : MachineEdit) (command : EditorCommand) (r : Option Refusal) (a : Answer)
+      → AreSound c.revisions → RestsOn edit.editor c → IsSoundEdit edit.editor → edit_refusal c edit.editor command ≡ r → JudgedEdit known env c edit command r a → LeavesTrees c a
+  leaves_edits known env c edit command None a trees rests sound judged (after, applies, is) = leaves_is c a _ is (trees, goes_on c edit.editor after command trees rests sound judged (applies_weaker (λ none. absurd none) c edit.editor command after applies), tt)
+  leaves_edits known env c edit command (Some r) a trees rests sound judged is = leaves_is c a _ is (trees, tt, tt)
 
   leaves_made : (env : Env) (c : RepoState) (client : Client) (ask : CommitAsk) (t : TxnState) (release : Release)
       → AreSound c.revisions → MeetWell (trees_in c.revisions) t.base (tree_of t.tree) (youngest c) → LeavesTrees c (made_answer env c client ask t release)
@@ -169,18 +169,18 @@ module _ (begins : (path : PathValue) (name : List ℕ) (is_of_today : Bool) →
       leaves_is c a (unreleased_answer env ask u.txn) u.is
       ((trees_more c.revisions _ trees.0 (makes_tree c u.txn w), makes_marks c ask u.txn w), tt, (w, tt))
 
-  leaves_told : (halted : Bool) (env : Env) (c : RepoState) (edit : MachineEdit) (command : EditorCommand) (ending : Option Ending) (a : Answer)
-      → AreSound c.revisions → RestsOn edit.editor c → IsSoundEdit edit.editor → CommandStep env edit command ending halted c a → LeavesTrees c a
-  leaves_told halted env c edit command None a trees rests sound step = leaves_edits env c edit command (edit_refusal c edit.editor command) a trees rests sound refl step
-  leaves_told halted env c edit command (Some ToCommit) a trees rests sound step = leaves_close halted env c edit.client edit.asked edit.editor (finished edit.editor) a trees rests sound refl step
-  leaves_told halted env c edit command (Some GivesUp) a trees rests sound is = leaves_is c a _ is (trees, tt, tt)
+  leaves_told : (known : Type 0) (halted : Bool) (env : Env) (c : RepoState) (edit : MachineEdit) (command : EditorCommand) (ending : Option Ending) (a : Answer)
+      → AreSound c.revisions → RestsOn edit.editor c → IsSoundEdit edit.editor → CommandStep known env edit command ending halted c a → LeavesTrees c a
+  leaves_told known halted env c edit command None a trees rests sound step = leaves_edits known env c edit command (edit_refusal c edit.editor command) a trees rests sound refl step
+  leaves_told known halted env c edit command (Some ToCommit) a trees rests sound step = leaves_close halted env c edit.client edit.asked edit.editor (finished edit.editor) a trees rests sound refl step
+  leaves_told known halted env c edit command (Some GivesUp) a trees rests sound is = leaves_is c a _ is (trees, tt, tt)
 
-  leaves_editing : (halted : Bool) (env : Env) (c : RepoState) (edit : MachineEdit) (r : Result EditorCommand CommandFault) (a : Answer)
-      → AreSound c.revisions → RestsOn edit.editor c → IsSoundEdit edit.editor → EditingStep env edit r halted c a → LeavesTrees c a
-  leaves_editing halted env c edit (Ok command) a trees rests sound step = leaves_told halted env c edit command (ending_of command) a trees rests sound step
-  leaves_editing halted env c edit (Err UnknownName) a trees rests sound is = leaves_is c a _ is (trees, tt, tt)
-  leaves_editing halted env c edit (Err BadParameters) a trees rests sound is = leaves_is c a _ is (trees, tt, tt)
-  leaves_editing halted env c edit (Err NoMemory) a trees rests sound is = leaves_is c a _ is (trees, tt, tt)
+  leaves_editing : (known : Type 0) (halted : Bool) (env : Env) (c : RepoState) (edit : MachineEdit) (r : Result EditorCommand CommandFault) (a : Answer)
+      → AreSound c.revisions → RestsOn edit.editor c → IsSoundEdit edit.editor → EditingStep known env edit r halted c a → LeavesTrees c a
+  leaves_editing known halted env c edit (Ok command) a trees rests sound step = leaves_told known halted env c edit command (ending_of command) a trees rests sound step
+  leaves_editing known halted env c edit (Err UnknownName) a trees rests sound is = leaves_is c a _ is (trees, tt, tt)
+  leaves_editing known halted env c edit (Err BadParameters) a trees rests sound is = leaves_is c a _ is (trees, tt, tt)
+  leaves_editing known halted env c edit (Err NoMemory) a trees rests sound is = leaves_is c a _ is (trees, tt, tt)
 
   leaves_trees : (halted : Bool) (s : Settings) (env : Env) (c : RepoState) (phase : Stage) (input : Input) (a : Answer)
       → AreSound c.revisions → EditRests phase c → EditIsSound phase → InputStep s env phase input halted c a → LeavesTrees c a
@@ -191,7 +191,7 @@ module _ (begins : (path : PathValue) (name : List ℕ) (is_of_today : Bool) →
   leaves_trees halted s env c (Skipping client) (Whole t) a trees rests sound step = leaves_quiet c s a trees (quiet_input s halted env c (Skipping client) (Whole t) a (λ h. h) step)
   leaves_trees halted s env c (Reporting reporting) (Whole t) a trees rests sound step = leaves_quiet c s a trees (quiet_input s halted env c (Reporting reporting) (Whole t) a (λ h. h) step)
   leaves_trees halted s env c (Driven client) (Whole t) a trees rests sound step = leaves_quiet c s a trees (quiet_input s halted env c (Driven client) (Whole t) a (λ h. h) step)
-  leaves_trees halted s env c (Editing edit) (Whole t) a trees rests sound step = leaves_editing halted env c edit (editor_command t) a trees rests sound step
+  leaves_trees halted s env c (Editing edit) (Whole t) a trees rests sound step = leaves_editing (Unit {0}) halted env c edit (editor_command t) a trees rests sound step
   leaves_trees halted s env c Greeted Broken a trees rests sound step = leaves_quiet c s a trees (quiet_input s halted env c Greeted Broken a (λ h. h) step)
   leaves_trees halted s env c (LoggingIn login) Broken a trees rests sound step = leaves_quiet c s a trees (quiet_input s halted env c (LoggingIn login) Broken a (λ h. h) step)
   leaves_trees halted s env c (Challenged pending) Broken a trees rests sound step = leaves_quiet c s a trees (quiet_input s halted env c (Challenged pending) Broken a (λ h. h) step)
@@ -208,6 +208,14 @@ module _ (begins : (path : PathValue) (name : List ℕ) (is_of_today : Bool) →
   keeps_rests halted s env c phase input a h step =
       let kept = leaves_trees halted s env c phase input a h.trees h.rests h.sound step in
       (record { trees = kept.0; rests = rests_on halted s env c phase input a h.rests step; sound = kept.1 }, kept.2)
+
+  -- whatever was read for a text
+  pub keeps_editing : (halted : Bool) (env : Env) (c : RepoState) (edit : MachineEdit) (r : Result EditorCommand CommandFault) (a : Answer)
+      → StandsOn (Editing edit) c → EditingStep ⊥ env edit r halted c a
+      → StandsOn a.phase (content_after c a.effect) × MeetBy c a.effect.changes
+  keeps_editing halted env c edit r a h step =
+      let kept = leaves_editing ⊥ halted env c edit r a h.trees h.rests h.sound step in
+      (record { trees = kept.0; rests = rests_read halted env c edit r a h.rests step; sound = kept.1 }, kept.2)
 
   pub keeps_unreleased : (halted : Bool) (env : Env) (c : RepoState) (phase : Stage) (input : Input) (a : Answer)
       → StandsOn phase c → UnreleasedStep env phase input halted c a

@@ -13,7 +13,8 @@ use Rattle.commands.specs.{declared.command.CommitCommand.CommitCommand, declare
 use Rattle.commands.specs.{declared.command.DriveCommand.TheVariants.{Update, Switch, Status}, declared.command.MainCommand.MainCommand}
 use Rattle.commands.specs.declared.command.MainCommand.TheVariants.{Read, Drive, Commit, AbortEdit, Lock, Unlock, ChangeRevProp, Reparent}
 use Rattle.commands.specs.{declared.command.ReadCommand.ReadCommand, declared.command.ReadCommand.TheVariants.{GetLatestRev, CheckPath, RevProplist, GetLock}}
-use Rattle.commands.specs.declared.command.ReadCommand.TheVariants.{GetLocks, GetFile, GetDir, Stat, GetDatedRev, RevProp, Log, GetLocations}
+use Rattle.commands.specs.declared.command.ReadCommand.TheVariants.{GetLocks, GetFile, GetDir, Stat, GetDatedRev, RevProp, Log, GetLocations, History}
+use Rattle.commands.specs.{declared.command.HistoryCommand.HistoryCommand, declared.command.HistoryCommand.TheVariants.{GetLocationSegments, GetDeletedRev}}
 use Rattle.commands.specs.{declared.command.LockCommand.LockCommand, declared.command.UnlockCommand.UnlockCommand}
 use Rattle.wire_replies.specs.{Replies.uuid_text, declared.reply.Reply.Reply}
 use Rattle.wire_replies.specs.declared.reply.Reply.TheVariants as replies
@@ -21,7 +22,7 @@ use Rattle.drive_reports.specs.{Refusing.{ask_of, begun_report}, declared.ask.Dr
 use Rattle.drive_reports.specs.declared.ask.Purpose.TheVariants as purposes
 use Rattle.edit_rules.specs.Edits.{new_edit}
 use Rattle.machine.specs.{Settings.Settings, Answers.{Verdict, Answer, Step, says, serves, change_answer, ChangeStep, Always, Shows}}
-use Rattle.machine.specs.{Answers.Verdict.{Written, NotWritten, Unknown}, Dates.is_refused_date, Histories.{all_joined, log_replies, locations_replies}}
+use Rattle.machine.specs.{Answers.Verdict.{Written, NotWritten, Unknown}, Dates.is_refused_date, Histories.{all_joined, deleted_reply, log_replies, locations_replies, segments_replies}}
 use Rattle.machine.specs.{Readings.{place_read, file_replies, directory_reply, stat_reply, dated_reply, property_reply}, declared.env.Env.Env}
 use Rattle.machine.specs.{declared.commit_parameters.CommitParameters.CommitParameters, declared.phase.Phase.TheVariants.{Serving, Editing, Reporting}}
 use Rattle.machine.specs.{declared.comments.TheConstants.COMMENT_LIMIT, declared.phase.Client.Client}
@@ -54,6 +55,13 @@ abbrev pub locks_reply : (PathValue → LockList) → Result PathValue PathFault
 locks_reply found (Ok path) = replies.Locks (found path)
 locks_reply found (Err fault) = replies.Failure (path_refusal fault) None
 
+-- what a client of today is told of the history of a path
+abbrev pub history_replies : Client → HistoryCommand → RepoState → List Reply
+history_replies client (GetLocationSegments command) c =
+    segments_replies client.is_of_today c command (joined client.path command.path)
+history_replies client (GetDeletedRev command) c =
+    deleted_reply c command (joined client.path command.path) ∷ []
+
 -- what a client is told where the repository is read, as it is seen from the path of its URL
 abbrev pub read_replies : Client → ReadCommand → RepoState → List Reply
 read_replies client GetLatestRev c = replies.Revision (youngest c) ∷ []
@@ -77,6 +85,7 @@ read_replies client (Log command) c =
     log_replies client.is_of_today c command (all_joined client.path command.paths)
 read_replies client (GetLocations command) c =
     locations_replies client.is_of_today c command (joined client.path command.path)
+read_replies client (History command) c = history_replies client command c
 
 -- it is told, and the next command is awaited
 abbrev pub read_answer : Env → Client → ReadCommand → RepoState → Answer

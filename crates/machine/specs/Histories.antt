@@ -1,5 +1,5 @@
 -- What the commands are answered that read the history of paths.
-use Rattle.std.specs.Prelude.{ℕ, Bool, true, false, not, nat_lt, List, [], ◌∷◌, ◌++◌, map, Option, Some, None, Result, Ok, Err, if◌then◌else◌, codes}
+use Rattle.std.specs.Prelude.{ℕ, Bool, true, false, not, ◌||◌, max, min, nat_lt, List, [], ◌∷◌, ◌++◌, map, Option, Some, None, Result, Ok, Err, if◌then◌else◌, codes}
 use Rattle.std.specs.List.{find, list_all, list_any}
 use Rattle.svnpath.specs.{Listings.listing, Paths.PathValue, Texts.joined, declared.fault.PathFault.PathFault}
 use Rattle.refusals.specs.{declared.Refusal.Refusal, Refusing.path_refusal}
@@ -7,7 +7,9 @@ use Rattle.refusals.specs.declared.Refusal.TheVariants as refusals
 use Rattle.repo_api.specs.{Histories.{Changed, history_of}, Kinds.{is_present, kind_at}, States.{RepoState, youngest}}
 use Rattle.traces.specs.declared.place.Place.{Place}
 use Rattle.history.specs.{Locations.{kind_shown, locations}, Logs.{log, newest_asked, place_at}, declared.log_ask.LogAsk.LogAsk}
+use Rattle.file_histories.specs.{Deleted.deleted_revision, Segments.{cut, segments}, declared.segment.Segment.Segment}
 use Rattle.commands.specs.{declared.command.GetLocationsCommand.GetLocationsCommand, declared.command.LogCommand.LogCommand}
+use Rattle.commands.specs.{declared.command.GetDeletedRevCommand.GetDeletedRevCommand, declared.command.GetLocationSegmentsCommand.GetLocationSegmentsCommand}
 use Rattle.wire_replies.specs.{Replies.logged_change, declared.histories.LoggedChange.LoggedChange, declared.reply.Reply.Reply}
 use Rattle.wire_replies.specs.declared.reply.Reply.TheVariants as replies
 use Rattle.machine.specs.{Answers.failure_at, Readings.{author_of, revision_date, revision_value}}
@@ -133,3 +135,54 @@ locations_replies is_of_today c command (Ok path) =
     let at = place_at command.peg path in
     listed_unless is_of_today (locations_refusal c at command.revisions) (Some path)
     (locations_told c at command.revisions)
+
+-- ---- segments
+
+-- the revision that is named, or the first
+abbrev pub or_first : Option ℕ → ℕ
+or_first None = 0
+or_first (Some n) = n
+
+-- why segments are refused: the peg revision is above the youngest, the three are not in order, or
+-- the path is not in the peg revision
+abbrev pub segments_refusal : RepoState → Place → ℕ → ℕ → Option Refusal
+segments_refusal c at start end =
+    if is_to_come c at.revision || (nat_lt at.revision start || nat_lt start end)
+    then Some refusals.NoSuchRevision
+    else if is_there c at.revision at.path then None else Some refusals.NotFound
+
+abbrev pub segment_told : Segment → Reply
+segment_told s = replies.Segment s.first s.last s.path
+
+-- the segments of a path, the newest first, cut to what lies between two revisions
+abbrev pub segments_told : RepoState → Place → ℕ → ℕ → List Reply
+segments_told c at start end =
+    map segment_told (cut end start (segments (history_of c) at.revision at.path))
+
+-- a bad path is refused before a revision, and that before a path that is not there
+abbrev pub segments_replies : Bool → RepoState → GetLocationSegmentsCommand
+    → Result PathValue PathFault → List Reply
+segments_replies is_of_today c command (Err fault) =
+    ended (replies.Failure (path_refusal fault) None)
+segments_replies is_of_today c command (Ok path) =
+    let at = place_at (or_youngest c command.peg) path in
+    let start = or_youngest c command.start in
+    let end = or_first command.end in
+    listed_unless is_of_today (segments_refusal c at start end) (Some path)
+    (segments_told c at start end)
+
+-- ---- what was deleted
+
+-- the revision in which something was deleted, if it was
+abbrev pub deleted_found : Option ℕ → Reply
+deleted_found None = replies.Failure refusals.NotDeleted None
+deleted_found (Some n) = replies.Revision n
+
+-- of the two revisions, in whichever order they come, the smaller has what is meant
+abbrev pub deleted_reply : RepoState → GetDeletedRevCommand → Result PathValue PathFault → Reply
+deleted_reply c command (Err fault) = replies.Failure (path_refusal fault) None
+deleted_reply c command (Ok path) =
+    let low = min command.peg command.end in
+    let high = max command.peg command.end in
+    if is_to_come c high then replies.Failure refusals.NoSuchRevision None
+    else deleted_found (deleted_revision c path low high)

@@ -16,7 +16,7 @@ use Rattle.wire_edits.specs.declared.editing.EditorCommand.TheVariants as edits
 use Rattle.wire_forms.specs.{declared.fault.CommandFault.CommandFault, declared.fault.CommandFault.TheVariants.{UnknownName, BadParameters, NoMemory}}
 use Rattle.wire_replies.specs.declared.reply.Reply.TheVariants as replies
 use Rattle.drive_wire.specs.Reporting.{client_answer}
-use Rattle.edit_rules.specs.{Editor.{Applies, finished}, Edits.EditState, Refused.refused_at, Refusing.edit_refusal}
+use Rattle.edit_rules.specs.{Editor.{Applies, applies_weaker, finished}, Edits.EditState, Refused.refused_at, Refusing.edit_refusal}
 use Rattle.machine.specs.{Settings.Settings, Hearing.Input, Hearing.Input.{Whole, Broken}, Stages.Stage}
 use Rattle.machine.specs.Answers.{Verdict, Effect, no_effect, Answer, Step, says, serves, change_answer, Behind, failure_at, malformed, refuses, Always}
 use Rattle.machine.specs.{Answers.Verdict.{Written, NotWritten, Unknown}, Commands.{login_request, OwnStep}, Reports.{ReportingStep, driven_answer}}
@@ -54,18 +54,18 @@ gives_up env client r path =
 abbrev pub MachineEdit : Type 0
 MachineEdit = OpenEdit EditState
 
--- a command of an edit that was judged so
-abbrev pub JudgedEdit : Env → RepoState → MachineEdit → EditorCommand → Option Refusal → Answer
+-- a command of an edit that was judged so, under the premise that what was read is known
+abbrev pub JudgedEdit : Type 0 → Env → RepoState → MachineEdit → EditorCommand → Option Refusal → Answer
     → Type 0
-JudgedEdit env c edit command None a =
-    (after : EditState) × Applies c edit.editor command after
+JudgedEdit known env c edit command None a =
+    (after : EditState) × Applies known c edit.editor command after
     × (a ≡ says env (Editing (record { client = edit.client; asked = edit.asked; editor = after })) [])
-JudgedEdit env c edit command (Some r) a =
+JudgedEdit known env c edit command (Some r) a =
     a ≡ gives_up env edit.client r (refused_at edit.editor command r)
 
-abbrev pub EditStep : Env → MachineEdit → EditorCommand → Step
-EditStep env edit command halted c a =
-    JudgedEdit env c edit command (edit_refusal c edit.editor command) a
+abbrev pub EditStep : Type 0 → Env → MachineEdit → EditorCommand → Step
+EditStep known env edit command halted c a =
+    JudgedEdit known env c edit command (edit_refusal c edit.editor command) a
 
 -- ---- the end of an edit
 
@@ -201,19 +201,38 @@ ending_of (CloseFile token checksum) = None
 ending_of CloseEdit = Some Commits
 ending_of edits.AbortEdit = Some GivesUp
 
-abbrev pub CommandStep : Env → MachineEdit → EditorCommand → Option Ending → Step
-CommandStep env edit command None = EditStep env edit command
-CommandStep env edit command (Some Commits) =
+abbrev pub CommandStep : Type 0 → Env → MachineEdit → EditorCommand → Option Ending → Step
+CommandStep known env edit command None = EditStep known env edit command
+CommandStep known env edit command (Some Commits) =
     CloseStep env edit.client edit.asked (finished edit.editor)
-CommandStep env edit command (Some GivesUp) =
+CommandStep known env edit command (Some GivesUp) =
     Always (says env (Serving edit.client) (replies.Success ∷ []))
 
-abbrev pub EditingStep : Env → MachineEdit → Result EditorCommand CommandFault → Step
-EditingStep env edit (Ok command) = CommandStep env edit command (ending_of command)
-EditingStep env edit (Err UnknownName) =
+abbrev pub EditingStep : Type 0 → Env → MachineEdit → Result EditorCommand CommandFault → Step
+EditingStep known env edit (Ok command) = CommandStep known env edit command (ending_of command)
+EditingStep known env edit (Err UnknownName) =
     Always (gives_up env edit.client refusals.UnknownCommand None)
-EditingStep env edit (Err BadParameters) = Always (malformed env)
-EditingStep env edit (Err NoMemory) = Always (malformed env)
+EditingStep known env edit (Err BadParameters) = Always (malformed env)
+EditingStep known env edit (Err NoMemory) = Always (malformed env)
+
+-- under a premise that says more, a command within an edit does no other thing
+judged_weaker : {stronger weaker : Type 0} → (weaker → stronger) → (env : Env) (c : RepoState) (edit : MachineEdit) (command : EditorCommand) (r : Option Refusal)
+    (a : Answer) → JudgedEdit stronger env c edit command r a → JudgedEdit weaker env c edit command r a
+judged_weaker f env c edit command None a (after, applies, is) = (after, applies_weaker f c edit.editor command after applies, is)
+judged_weaker f env c edit command (Some r) a is = is
+
+command_weaker : {stronger weaker : Type 0} → (weaker → stronger) → (env : Env) (edit : MachineEdit) (command : EditorCommand) (ending : Option Ending)
+    (halted : Bool) (c : RepoState) (a : Answer) → CommandStep stronger env edit command ending halted c a → CommandStep weaker env edit command ending halted c a
+command_weaker f env edit command None halted c a step = judged_weaker f env c edit command (edit_refusal c edit.editor command) a step
+command_weaker f env edit command (Some Commits) halted c a step = step
+command_weaker f env edit command (Some GivesUp) halted c a step = step
+
+pub editing_weaker : {stronger weaker : Type 0} → (weaker → stronger) → (env : Env) (edit : MachineEdit) (r : Result EditorCommand CommandFault)
+    (halted : Bool) (c : RepoState) (a : Answer) → EditingStep stronger env edit r halted c a → EditingStep weaker env edit r halted c a
+editing_weaker f env edit (Ok command) halted c a step = command_weaker f env edit command (ending_of command) halted c a step
+editing_weaker f env edit (Err UnknownName) halted c a step = step
+editing_weaker f env edit (Err BadParameters) halted c a step = step
+editing_weaker f env edit (Err NoMemory) halted c a step = step
 
 -- the command ends the edit, and memory is refused for the release behind its commit
 abbrev pub UnreleasedEnd : Env → MachineEdit → Result EditorCommand CommandFault → Step
@@ -234,8 +253,8 @@ abbrev pub InputStep : Settings → Env → Stage → Input → Step
 InputStep s env Greeted (Whole t) = Always (greeting_answer s env (client_greeting t))
 InputStep s env (LoggingIn login) (Whole t) = LoginStep s env login (auth_response t)
 InputStep s env (Challenged pending) (Whole t) = ChallengeStep s env pending (challenge_answer t)
-InputStep s env (Serving client) (Whole t) = MainStep s env client (main_command t)
-InputStep s env (Editing edit) (Whole t) = EditingStep env edit (editor_command t)
+InputStep s env (Serving client) (Whole t) = MainStep s env client (main_command client.is_of_today t)
+InputStep s env (Editing edit) (Whole t) = EditingStep (Unit {0}) env edit (editor_command t)
 InputStep s env (Skipping client) (Whole t) = Always (skipping_answer env client (ends_edit t))
 InputStep s env (Reporting reporting) (Whole t) = ReportingStep s env reporting t
 InputStep s env (Driven client) (Whole t) = Always (driven_answer env client (client_answer t))

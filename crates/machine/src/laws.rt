@@ -1,8 +1,11 @@
 //! What holds of all that a stream brings. The functions do nothing: their contracts are the laws.
-ghost use Rattle.std.specs.Prelude.{◌≡◌, ℕ, List, Bool};
+ghost use Rattle.std.specs.Prelude.{◌≡◌, ℕ, List, Bool, Result};
+ghost use Rattle.wire_edits.specs.declared.editing.EditorCommand.{EditorCommand};
+ghost use Rattle.wire_forms.specs.declared.fault.CommandFault.{CommandFault};
 ghost use Rattle.repo_api.specs.States.{RepoState};
 ghost use Rattle.machine.specs.{Settings.Settings, Stages.{Stage, EditRests, StandsOn}, Soundness.MeetBy, Answers.{Answer, content_after}};
-ghost use Rattle.machine.specs.{Machine.{InputStep, UnreleasedStep}, declared.env.Env.Env, Hearing.{Input, Yields, HasNoMore, EndsBroken}};
+ghost use Rattle.machine.specs.{Machine.{EditingStep, InputStep, MachineEdit, UnreleasedStep}, Hearing.{Input, Yields, HasNoMore, EndsBroken}};
+ghost use Rattle.machine.specs.{declared.env.Env.Env, declared.phase.Phase.TheVariants.Editing};
 
 /// Shows that a stream that has brought all that it does so far has brought these inputs and no others, and this is
 /// left of it; and so up to the byte that goes on to no item, where it has one. A stream that has one never comes to
@@ -28,10 +31,14 @@ pub fn steps_rest()
 
 /// Shows that where every tree of the repository is a tree whose marks name what they mark, and so is the tree of the
 /// session's edit, which has seen revisions that exist, so it is after an input, and a commit that is accepted meets
-/// the youngest revision well; and so too where memory is refused for the release after it.
+/// the youngest revision well; and so too within an edit whatever was read for a text, and where memory is refused for
+/// the release after a commit.
 pub fn steps_keep_trees()
     ensures step { (halted : Bool) (s : Settings) (env : Env) (c : RepoState) (phase : Stage) (input : Input) (a : Answer)
         → StandsOn phase c → InputStep s env phase input halted c a
+        → StandsOn a.phase (content_after c a.effect) × MeetBy c a.effect.changes }
+    ensures read { (halted : Bool) (env : Env) (c : RepoState) (edit : MachineEdit) (r : Result EditorCommand CommandFault) (a : Answer)
+        → StandsOn (Editing edit) c → EditingStep ⊥ env edit r halted c a
         → StandsOn a.phase (content_after c a.effect) × MeetBy c a.effect.changes }
     ensures unreleased { (halted : Bool) (env : Env) (c : RepoState) (phase : Stage) (input : Input) (a : Answer)
         → StandsOn phase c → UnreleasedStep env phase input halted c a

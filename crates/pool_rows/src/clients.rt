@@ -212,7 +212,7 @@ where
 {
     let settings = Settings {
         options: Options::new(alloc, "r").expect(rt, "memory"),
-        address: SocketAddrV4::new(Ipv4Addr::LOCALHOST, 0),
+        address: SocketAddr::V4(SocketAddrV4::new(Ipv4Addr::LOCALHOST, 0)),
         sessions: clients.sessions(),
         per_address: clients.per_address(),
         is_exposed: false,

@@ -13,26 +13,27 @@ fn text(rt: &impl Abort, alloc: Global, text: &str) -> String {
 }
 
 /// Names, addresses and files of users, and what is told of the first fault among them.
-static FAULTS: [((&str, &str, &str), &str); 7] = [
+static FAULTS: [((&str, &str, &str), &str); 8] = [
     (
         (".", "localhost:1", "none"),
         "a name is 1 to 64 of A-Z, a-z, 0-9, `-`, `_` and `.`, and not `.` or `..`",
     ),
     (
         ("r", "localhost:1", "none"),
-        "an address is a dotted IPv4 address, `:` and a port",
+        "an address is a dotted IPv4 address or an IPv6 address in brackets, `:` and a port",
     ),
     (
         ("r", "127.0.0.1:65536", "none"),
-        "an address is a dotted IPv4 address, `:` and a port",
+        "an address is a dotted IPv4 address or an IPv6 address in brackets, `:` and a port",
     ),
     (
         ("r", "127.0.0.1", "none"),
-        "an address is a dotted IPv4 address, `:` and a port",
+        "an address is a dotted IPv4 address or an IPv6 address in brackets, `:` and a port",
     ),
     (("r", "127.0.0.1:1", "none"), "io"),
     (("r", "127.0.0.1:1", "faulty"), "M4 line 3"),
     (("r", "127.0.0.1:1", "users"), ""),
+    (("r", "[::1]:1", "users"), ""),
 ];
 
 /// Says whether this is what is told of the fault of an order to serve with this name, address and file of users, or
@@ -61,7 +62,7 @@ fn is_told<R: Abort + Runtime>(
 
 #[test]
 fn the_first_fault_is_told(rt: HostRuntime) {
-    fs::write(&rt, "faulty", b"[users]\nalice = secret\nbob\n").expect(&rt, "a file");
+    fs::write(&rt, "faulty", b"[users]\ntim = x\ntim = y\n").expect(&rt, "a file");
     fs::write(&rt, "users", b"[users]\nalice = secret\n").expect(&rt, "a file");
     let mut are_told = true;
     for (asked, wanted) in FAULTS.iter() {

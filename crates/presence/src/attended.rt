@@ -2,12 +2,15 @@
 ghost use Rattle.std.specs.Prelude.{◌≡◌};
 
 use crate::client::Presence;
+use crate::deed::{Deed, deed_of, failed_deed};
 use crate::view::AttendedView;
 use access::{Committed, NotCommitted, RepoAccess, SharedAccess};
+use byte_string::ByteString;
 use repo_api::{ChangeFault, CommitAsk, LockAsk, PropertyAsk, Repository, UnlockAsk};
 use std::alloc::AllocError;
 use std::cell::Cell;
 use std::mem::{self, drop};
+use svnpath::Path;
 
 /// An access to a repository for a client: once it has gone, no more directories are listed, as where memory runs out.
 #[derive(Drop)]
@@ -41,6 +44,29 @@ impl<A: RepoAccess + Drop, P: Presence> AttendedAccess<A, P> {
         ensures { self.new.access ≡ self.old.access }
     {
         drop(mem::replace(&mut self.client, client));
+    }
+}
+
+/// Copies the name of a user, if there is one, and memory for it.
+fn user_of(user: &Option<ByteString>) -> Option<ByteString> {
+    match user.clone() {
+        Ok(user) => user,
+        Err(AllocError) => None,
+    }
+}
+
+/// Says what a commit has come to.
+fn commit_deed(done: &Result<Committed, NotCommitted>) -> Option<Deed<'_>> {
+    match done {
+        Ok(committed) => Some(Deed::Commits(committed.revision)),
+        Err(not) => failed_deed(not.fault, not.path.as_ref()),
+    }
+}
+
+/// Notes what a client has done, if anything is to be said of it.
+fn note<P: Presence>(client: &P, user: &Option<ByteString>, deed: Option<Deed<'_>>) {
+    if let Some(deed) = deed {
+        client.notes(user.as_ref(), deed);
     }
 }
 
@@ -82,19 +108,46 @@ impl<A: RepoAccess + Drop, P: Presence> RepoAccess for AttendedAccess<A, P> {
         ask: CommitAsk,
         txn: <A::View as Repository>::Txn,
     ) -> Result<Committed, NotCommitted> {
-        self.access.commit(ask, txn)
+        let user = user_of(&ask.author);
+        let done = self.access.commit(ask, txn);
+        note(&self.client, &user, commit_deed(&done));
+        done
     }
 
     fn lock(&mut self, ask: LockAsk) -> Result<(), ChangeFault> {
-        self.access.lock(ask)
+        let user = user_of(&ask.user);
+        let path: Result<Path, AllocError> = ask.path.clone();
+        let done = self.access.lock(ask);
+        if let Ok(path) = &path {
+            note(
+                &self.client,
+                &user,
+                deed_of(Deed::Locks(path), Some(path), done),
+            );
+        }
+        done
     }
 
     fn unlock(&mut self, ask: &UnlockAsk) -> Result<(), ChangeFault> {
-        self.access.unlock(ask)
+        let done = self.access.unlock(ask);
+        let path = &ask.path;
+        note(
+            &self.client,
+            &ask.user,
+            deed_of(Deed::Unlocks(path), Some(path), done),
+        );
+        done
     }
 
     fn set_rev_prop(&mut self, ask: PropertyAsk) -> Result<(), ChangeFault> {
-        self.access.set_rev_prop(ask)
+        let revision = ask.revision;
+        let name: Result<ByteString, AllocError> = ask.name.clone();
+        let done = self.access.set_rev_prop(ask);
+        if let Ok(name) = &name {
+            let deed = deed_of(Deed::ChangesProperty(revision, name), None, done);
+            note(&self.client, &None, deed);
+        }
+        done
     }
 }
 

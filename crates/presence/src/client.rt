@@ -1,4 +1,6 @@
 //! Whether a client is still there.
+use crate::deed::Deed;
+use byte_string::ByteString;
 use std::alloc::AllocError;
 
 /// What can be asked whether a client is still there. No promise rests on the answer: where it says that the client has
@@ -12,4 +14,7 @@ pub trait Presence: Drop {
 
     /// Says whether the client has gone.
     fn is_gone(&self) -> bool;
+
+    /// Notes what the client has done, as this user, where the user is known. Nothing is noted where nothing is said of it.
+    fn notes(&self, _user: Option<&ByteString>, _deed: Deed<'_>) {}
 }

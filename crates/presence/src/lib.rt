@@ -5,9 +5,11 @@
 mod attended;
 mod client;
 mod connection;
+mod deed;
 mod view;
 
 pub use attended::AttendedAccess;
 pub use client::Presence;
 pub use connection::{Connection, has_gone};
+pub use deed::Deed;
 pub use view::AttendedView;

@@ -5,6 +5,7 @@ use Rattle.refusals.specs.declared.Refusal.TheVariants as refusals
 
 abbrev pub refusal_number : Refusal → ℕ
 refusal_number refusals.NotADate = 125005
+refusal_number refusals.NotDeleted = 150003
 refusal_number refusals.StoreFailed = 160000
 refusal_number refusals.BadPath = 160005
 refusal_number refusals.NoSuchRevision = 160006
@@ -33,6 +34,7 @@ refusal_number refusals.EditAborted = 210008
 
 abbrev pub refusal_text : Refusal → List ℕ
 refusal_text refusals.NotADate = codes "not a date"
+refusal_text refusals.NotDeleted = codes "not deleted"
 refusal_text refusals.StoreFailed = codes "store failed"
 refusal_text refusals.BadPath = codes "bad path"
 refusal_text refusals.NoSuchRevision = codes "no such revision"

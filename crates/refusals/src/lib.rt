@@ -15,6 +15,8 @@ pub use refusing::path_refusal;
 pub enum Refusal {
     /// The value is no date that clients can read.
     NotADate,
+    /// What is at the path was not deleted between the revisions.
+    NotDeleted,
     /// The files could not be written.
     StoreFailed,
     /// The path or URL is none.
@@ -74,6 +76,7 @@ impl Refusal {
     {
         match self {
             Refusal::NotADate => 125005,
+            Refusal::NotDeleted => 150003,
             Refusal::StoreFailed => 160000,
             Refusal::BadPath => 160005,
             Refusal::NoSuchRevision => 160006,
@@ -108,6 +111,7 @@ impl Refusal {
     {
         match self {
             Refusal::NotADate => b"not a date",
+            Refusal::NotDeleted => b"not deleted",
             Refusal::StoreFailed => b"store failed",
             Refusal::BadPath => b"bad path",
             Refusal::NoSuchRevision => b"no such revision",

@@ -3,6 +3,9 @@ pub mod Properties
 pub mod Trees
 pub mod Edits
 pub mod RightEdits
+pub mod Rows
+pub mod Held
+pub mod Left
 pub mod Changes
 pub mod States
 pub mod Merge

@@ -1,52 +1,64 @@
 //! Properties by name.
-ghost use Rattle.std.specs.Prelude.{◌≡◌, [], OnOk, OnErr, option_copied};
-ghost use Rattle.repo_api.specs.Properties.{PropertyList, is_same_value, property_value, with_property, without_property};
+ghost use Rattle.std.specs.Prelude.{◌≡◌, ◌==◌, [], OnOk, OnErr, length, option_copied};
+ghost use Rattle.repo_api.specs.Properties.{is_same_value, property_value, with_property, without_property};
 
+use crate::held::{Held, copy, get, is_none, remove, set};
+use crate::property_rows::{PropertyRows, rows_of};
 use byte_string::ByteString;
 use std::alloc::{AllocError, Global};
-use std::collections::BTreeMap;
-use std::collections::btree_map::Iter;
 use std::marker::Model;
 
+/// Properties by their names.
 #[derive(Debug)]
 pub struct Properties {
-    values: BTreeMap<ByteString, ByteString>,
+    held: Held,
 }
 
 impl Drop for Properties {
     fn drop(self) {
-        let Properties { values: _ } = self;
+        let Properties { held: _ } = self;
     }
 }
 
 impl Model for Properties {
+    ghost use Rattle.repo_api.specs.{Held.{IsInOrder, list_of}, Properties.PropertyList};
+
     ghost Value = { PropertyList };
 
-    ghost view = { λ p. p.values.entries };
+    ghost view = { λ p. list_of p.held };
+
+    ghost invariant = { λ p. IsInOrder p.held };
 }
 
 impl Properties {
-    /// Makes an empty list of properties.
+    /// Makes an empty list of properties, which takes no memory.
     pub fn new(alloc: Global) -> Self
         ensures { result ≡ [] }
     {
         Properties {
-            values: BTreeMap::new(alloc),
+            held: Held::Few(Vec::new(alloc)),
         }
     }
 
     /// Gives the names with their values, by the names' bytes.
-    pub fn iter(&self) -> Iter<'_, ByteString, ByteString>
+    pub fn iter(&self) -> PropertyRows<'_>
         ensures { result ≡ self.now }
     {
-        self.values.iter()
+        rows_of(&self.held)
+    }
+
+    /// Says whether there are none.
+    pub fn is_empty(&self) -> bool
+        ensures { result ≡ (length self.now == 0) }
+    {
+        is_none(&self.held)
     }
 
     /// Finds the value of the property of this name, if there is one.
     pub fn get(&self, name: &ByteString) -> Option<&ByteString>
         ensures { option_copied result ≡ property_value self.now name.now }
     {
-        self.values.get(name)
+        get(&self.held, name)
     }
 
     /// Adds a property, or replaces its value where the name has one. An `Err` changes nothing.
@@ -54,15 +66,14 @@ impl Properties {
         ensures ok { OnOk result (self.new ≡ with_property self.old name value) }
         ensures err { OnErr result (self.new ≡ self.old) }
     {
-        self.values.insert(name, value)?;
-        Ok(())
+        set(&mut self.held, name, value)
     }
 
     /// Takes out the property of this name. Where there is none, nothing changes.
     pub fn remove(&mut self, name: &ByteString)
         ensures { self.new ≡ without_property self.old name.now }
     {
-        self.values.remove(name);
+        remove(&mut self.held, name);
     }
 }
 
@@ -71,7 +82,7 @@ impl Clone for Properties {
 
     fn clone(&self) -> Result<Self, AllocError> {
         Ok(Properties {
-            values: self.values.clone()?,
+            held: copy(&self.held)?,
         })
     }
 }

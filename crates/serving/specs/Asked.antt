@@ -1,5 +1,5 @@
 -- What a server is asked to serve by, and what it serves by.
-use Rattle.std.specs.{Net.Grammar.IsSocketV4Text, Prelude.{◌≡◌, ℕ, List, Some, string_bytes}}
+use Rattle.std.specs.{Net.Grammar.IsSocketText, Prelude.{◌≡◌, ℕ, List, Some, string_bytes}}
 use Rattle.cram.specs.UsersFile.{AreRight, file_lines, logins_of}
 use Rattle.command_line.specs.declared.order.Service.{Service}
 use Rattle.serving.specs.declared.settings.Settings.{Settings}
@@ -17,7 +17,7 @@ OptionsAreAsked service s =
 -- where the server listens, and whether it is quiet
 abbrev pub PlaceIsAsked : Service → Settings → Type 0
 PlaceIsAsked service s =
-    IsSocketV4Text (string_bytes service.listen) s.address × (s.is_quiet ≡ service.quiet)
+    IsSocketText (string_bytes service.listen) s.address × (s.is_quiet ≡ service.quiet)
 
 -- how many sessions there may be at a time, and how many of one address
 abbrev pub CountsAreAsked : Service → Settings → Type 0

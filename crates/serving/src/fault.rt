@@ -12,8 +12,8 @@ pub enum ServingFault {
     /// No repository may have the name.
     #[error("a name is 1 to 64 of A-Z, a-z, 0-9, `-`, `_` and `.`, and not `.` or `..`")]
     Name,
-    /// The address to listen at isn't a dotted IPv4 address, `:` and a port.
-    #[error("an address is a dotted IPv4 address, `:` and a port")]
+    /// The address to listen at isn't a dotted IPv4 address or an IPv6 address in brackets, `:` and a port.
+    #[error("an address is a dotted IPv4 address or an IPv6 address in brackets, `:` and a port")]
     Address,
     /// The first line of the file of users that breaks its form, counted from 1.
     #[error("M4 line {0}")]

@@ -16,6 +16,10 @@ pub enum Reason {
     AddressInUse,
     #[error("this machine does not have the address")]
     AddressElsewhere,
+    #[error("nobody listens there")]
+    NobodyListens,
+    #[error("there is no answer in time")]
+    TooLate,
     #[error("there is no room")]
     NoRoom,
     #[error("nobody reads it")]
@@ -36,6 +40,8 @@ impl Reason {
             ErrorKind::IsADirectory => Reason::Folder,
             ErrorKind::AddrInUse => Reason::AddressInUse,
             ErrorKind::AddrNotAvailable => Reason::AddressElsewhere,
+            ErrorKind::ConnectionRefused => Reason::NobodyListens,
+            ErrorKind::TimedOut | ErrorKind::WouldBlock => Reason::TooLate,
             ErrorKind::StorageFull => Reason::NoRoom,
             ErrorKind::BrokenPipe => Reason::Closed,
             ErrorKind::OutOfMemory => Reason::NoMemory,

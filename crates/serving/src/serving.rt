@@ -19,7 +19,7 @@ use session_pool::SessionPool;
 use std::alloc::Global;
 use std::fs::Files;
 use std::io::{Eprint, Print};
-use std::net::{Net, SocketAddrV4, TcpListener, TcpStream};
+use std::net::{Net, SocketAddr, TcpListener, TcpStream};
 use std::random::RandomSource;
 use std::sync::Wait;
 use std::thread;
@@ -237,7 +237,7 @@ where
 }
 
 /// Listens at an address.
-fn listener_at<R>(rt: &R, address: SocketAddrV4) -> Result<TcpListener, ServingFault>
+fn listener_at<R>(rt: &R, address: SocketAddr) -> Result<TcpListener, ServingFault>
 where
     R: Net<Listener = TcpListener, Stream = TcpStream>,
 {

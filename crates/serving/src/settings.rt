@@ -2,7 +2,7 @@
 ghost use Rattle.std.specs.Prelude.{◌≡◌, ℕ, List, IfOk, Some, string_bytes};
 ghost use Rattle.cram.specs.UsersFile.{AreRight, file_lines, logins_of};
 ghost use Rattle.serving.specs.Asked.{CountsAreAsked, OptionsAreAsked, PlaceIsAsked};
-ghost use Rattle.std.specs.Net.Grammar.{IsSocketV4Text};
+ghost use Rattle.std.specs.Net.Grammar.{IsSocketText};
 
 use crate::fault::ServingFault;
 use crate::reason::Reason;
@@ -13,7 +13,7 @@ use std::alloc::{AllocError, Global};
 use std::fs;
 use std::fs::Files;
 use std::mem::drop;
-use std::net::SocketAddrV4;
+use std::net::SocketAddr;
 use std::os::unix::fs::PermissionsExt;
 use std::rt::Runtime;
 
@@ -23,7 +23,7 @@ use std::rt::Runtime;
 #[derive(Drop)]
 pub struct Settings {
     pub options: Options,
-    pub address: SocketAddrV4,
+    pub address: SocketAddr,
     pub sessions: u64,
     pub per_address: u64,
     pub is_exposed: bool,
@@ -39,11 +39,11 @@ pub struct Server<'s, R> {
     pub settings: &'s Settings,
 }
 
-/// Reads where to listen: a dotted IPv4 address and a port.
-fn address_of(service: &Service) -> Result<SocketAddrV4, ServingFault>
-    ensures { IfOk result (IsSocketV4Text (string_bytes service.now.listen)) }
+/// Reads where to listen: an address and a port.
+fn address_of(service: &Service) -> Result<SocketAddr, ServingFault>
+    ensures { IfOk result (IsSocketText (string_bytes service.now.listen)) }
 {
-    match service.listen.as_str().parse::<SocketAddrV4>() {
+    match service.listen.as_str().parse::<SocketAddr>() {
         Ok(address) => Ok(address),
         Err(_) => Err(ServingFault::Address),
     }

@@ -13,7 +13,7 @@ use access::RepoAccess;
 use items::Item;
 use machine::{Options, Phase, Turn};
 use repo_api::Repository;
-use session_commands::{edit_item, main_item, skipped_item};
+use session_commands::{edit_input, main_item, skipped_item};
 use session_replies::{SessionPhase, end_malformed};
 use session_reports::{driven_item, report_item};
 use std::alloc::AllocError;
@@ -29,6 +29,7 @@ fn serve_item<R: Repository, A: RepoAccess<View = R>, S: ReplySink>(
     turn: &mut Turn<S>,
 ) -> Result<SessionPhase<R>, AllocError>
     requires rests { StandsOn phase (content_of (A.point access.old)) }
+    requires held { (out : S) → S.is_honest out }
     ensures { SteppedInPart result S.writes turn.old turn.new A.rules A.point access.old access.new
         (InputStep options.now turn.old.env phase (Whole (value_of item.now)))
         (UnreleasedStep turn.old.env phase (Whole (value_of item.now))) }
@@ -38,7 +39,7 @@ fn serve_item<R: Repository, A: RepoAccess<View = R>, S: ReplySink>(
         Phase::LoggingIn(login) => login_item(options, login, item, access, turn),
         Phase::Challenged(pending) => challenge_item(options, pending, item, access, turn),
         Phase::Serving(client) => main_item(options, client, item, access, turn),
-        Phase::Editing(edit) => edit_item(edit, item, access, turn),
+        Phase::Editing(edit) => edit_input(edit, item, access, turn),
         Phase::Skipping(client) => skipped_item(client, item, turn),
         Phase::Reporting(reporting) => report_item(options, reporting, item, access, turn),
         Phase::Driven(client) => driven_item(client, item, turn),
@@ -72,6 +73,7 @@ pub fn serve<R: Repository, A: RepoAccess<View = R>, S: ReplySink>(
     turn: &mut Turn<S>,
 ) -> Result<SessionPhase<R>, AllocError>
     requires rests { StandsOn phase (content_of (A.point access.old)) }
+    requires held { (out : S) → S.is_honest out }
     ensures { SteppedInPart result S.writes turn.old turn.new A.rules A.point access.old access.new
         (InputStep options.now turn.old.env phase (input_of incoming))
         (UnreleasedStep turn.old.env phase (input_of incoming)) }

@@ -42,6 +42,7 @@ fn serve_all<R: Repository, A: RepoAccess<View = R>, S: ReplySink>(
     turn: &mut Turn<S>,
 ) -> Result<SessionPhase<R>, AllocError>
     requires rests { StandsOn phase (content_of (A.point access.old)) }
+    requires held { (out : S) → S.is_honest out }
     ensures ok { IfOk result (λ after. FeedWritten A.rules options.now turn.old.env
         (A.point access.old) phase reader.old.rest reader.new.rest
         (A.point access.new) after (S.writes turn.old.out turn.new.out)) }
@@ -159,7 +160,8 @@ impl<R: Repository> Session<R> {
         }
     }
 
-    /// Takes the next piece of what the client sends, and writes what it is answered as it is made.
+    /// Takes the next piece of what the client sends, and writes what it is answered as it is made. The sink reads of each
+    /// text what is known of it.
     /// After an `Err` the session has ended, and a part of the replies to what was served was
     /// written. The last that was served may be a commit for whose release memory was refused.
     pub fn feed<A: RepoAccess<View = R>, S: ReplySink>(
@@ -170,6 +172,7 @@ impl<R: Repository> Session<R> {
         turn: &mut Turn<S>,
     ) -> Result<(), SessionFault>
         requires rests { StandsOn self.old.phase (content_of (A.point access.old)) }
+        requires held { (out : S) → S.is_honest out }
         ensures ok { OnOk result (FeedWritten A.rules options.now turn.old.env
             (A.point access.old) self.old.phase (self.old.rest ++ piece.now) self.new.rest
             (A.point access.new) self.new.phase (S.writes turn.old.out turn.new.out)) }

@@ -80,9 +80,10 @@ pub fn main_item<R: Repository, A: RepoAccess<View = R>, S: ReplySink>(
     turn: &mut Turn<S>,
 ) -> Result<SessionPhase<R>, AllocError>
     ensures { Stepped result S.writes turn.old turn.new A.rules A.point access.old access.new
-        (MainStep options.now turn.old.env client (main_command (value_of item.now))) }
+        (MainStep options.now turn.old.env client
+        (main_command client.is_of_today (value_of item.now))) }
 {
-    match MainCommand::from_item(turn.alloc, item) {
+    match MainCommand::from_item(turn.alloc, client.is_of_today, item) {
         Ok(command) => answer_or_ask_login(options, client, command, access, turn),
         Err(CommandFault::UnknownName) => refuse_unknown(client, turn),
         Err(CommandFault::BadParameters) => {

@@ -12,4 +12,4 @@ pub use answering::main_item;
 pub use asking::{ask_for_login, await_choice};
 pub use own::own_answer;
 pub use request::Request;
-pub use session_commits::{edit_item, skipped_item};
+pub use session_commits::{edit_input, skipped_item};

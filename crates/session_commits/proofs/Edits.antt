@@ -39,11 +39,11 @@ closes_by rules env edit p r stays is =
     only_says stays step
 
 -- an edit that is given up
-pub aborts : (rules : AccessRules) (env : Env) (edit : MachineEdit) (command : EditorCommand) (p : Point) → rules.between p p → ending_of command ≡ Some GivesUp
-    → Leads rules (EditingStep env edit (Ok command)) p p env (Serving edit.client) (replies.Success ∷ [])
-aborts rules env edit command p stays is =
+pub aborts : (known : Type 0) (rules : AccessRules) (env : Env) (edit : MachineEdit) (command : EditorCommand) (p : Point) → rules.between p p → ending_of command ≡ Some GivesUp
+    → Leads rules (EditingStep known env edit (Ok command)) p p env (Serving edit.client) (replies.Success ∷ [])
+aborts known rules env edit command p stays is =
     let said = says env (Serving edit.client) (replies.Success ∷ []) in
-    let step = subst (λ (e : Option Ending). CommandStep env edit command e p.halted (content_of p) said) (sym is) refl in
+    let step = subst (λ (e : Option Ending). CommandStep known env edit command e p.halted (content_of p) said) (sym is) refl in
     only_says stays step
 
 -- what a commit is asked to record, at its moment

@@ -7,7 +7,8 @@ ghost use Rattle.wire_edits.specs.Editing.{editor_command};
 ghost use Rattle.edit_rules.specs.{Editor.{finished, RestsOn}, Edits.new_edit, Soundness.IsSoundEdit};
 ghost use Rattle.access.specs.Points.{content_of};
 ghost use Rattle.machine.specs.{Answers.says, Commands.{asked_by, commit_begins, lock_tokens}};
-ghost use Rattle.machine.specs.{Machine.{CloseStep, commit_ask, EditingStep, UnreleasedClose, UnreleasedEnd}, Steps.{Answered, AnsweredIfAny, SteppedInPart}};
+ghost use Rattle.machine.specs.{Machine.{CloseStep, commit_ask, EditingStep, UnreleasedClose, UnreleasedEnd}, Stages.StandsOn};
+ghost use Rattle.machine.specs.Steps.{Answered, AnsweredIfAny, SteppedInPart};
 ghost use Rattle.wire_replies.specs.{Made.Makes, Sinks.Says};
 ghost use Rattle.session_commits.specs.Telling.{tells_made, commit_answer};
 
@@ -18,7 +19,9 @@ use commands::CommitCommand;
 use dates::date_bytes;
 use editor::CommitEditor;
 use items::Item;
-use machine::{Client, CommitParameters, Ending, OpenEdit, Options, Phase, Turn, ending_of};
+use machine::{
+    Client, CommitParameters, Ending, OpenEdit, Options, Phase, Turn, ending_of, steps_keep_trees,
+};
 use refusals::{NotDone, Refusal};
 use repo_api::{CommitAsk, Repository};
 use session_edits::{apply_command, give_up};
@@ -321,7 +324,7 @@ fn edit_command<R: Repository, A: RepoAccess<View = R>, S: ReplySink>(
     requires rests { RestsOn edit.editor (content_of (A.point access.old)) }
     requires sound { IsSoundEdit edit.editor }
     ensures { SteppedInPart result S.writes turn.old turn.new A.rules A.point access.old access.new
-        (EditingStep turn.old.env edit (Ok command.now))
+        (EditingStep (S.is_honest turn.new.out) turn.old.env edit (Ok command.now))
         (UnreleasedEnd turn.old.env edit (Ok command.now)) }
 {
     match ending_of(command) {
@@ -331,8 +334,8 @@ fn edit_command<R: Repository, A: RepoAccess<View = R>, S: ReplySink>(
     }
 }
 
-/// Takes an item within an edit.
-pub fn edit_item<R: Repository, A: RepoAccess<View = R>, S: ReplySink>(
+/// Takes an item within an edit. What it makes of a text delta rests on what was read of the text.
+fn edit_item<R: Repository, A: RepoAccess<View = R>, S: ReplySink>(
     edit: SessionEdit<R>,
     item: &Item,
     access: &mut A,
@@ -341,7 +344,7 @@ pub fn edit_item<R: Repository, A: RepoAccess<View = R>, S: ReplySink>(
     requires rests { RestsOn edit.editor (content_of (A.point access.old)) }
     requires sound { IsSoundEdit edit.editor }
     ensures { SteppedInPart result S.writes turn.old turn.new A.rules A.point access.old access.new
-        (EditingStep turn.old.env edit (editor_command (value_of item.now)))
+        (EditingStep (S.is_honest turn.new.out) turn.old.env edit (editor_command (value_of item.now)))
         (UnreleasedEnd turn.old.env edit (editor_command (value_of item.now))) }
 {
     match EditorCommand::from_item(item) {
@@ -360,4 +363,24 @@ pub fn edit_item<R: Repository, A: RepoAccess<View = R>, S: ReplySink>(
             Err(AllocError)
         }
     }
+}
+
+/// Takes an item within an edit. Where each text that was read is the one that is known, that is the machine's step. Whatever
+/// was read, the session stands on what exists.
+pub fn edit_input<R: Repository, A: RepoAccess<View = R>, S: ReplySink>(
+    edit: SessionEdit<R>,
+    item: &Item,
+    access: &mut A,
+    turn: &mut Turn<S>,
+) -> Result<SessionPhase<R>, AllocError>
+    requires { StandsOn (Phase.Editing edit) (content_of (A.point access.old)) }
+    ensures known { S.is_honest turn.new.out → S.is_honest turn.old.out }
+    ensures step { S.is_honest turn.new.out
+        → SteppedInPart result S.writes turn.old turn.new A.rules A.point access.old access.new
+        (EditingStep (Unit {0}) turn.old.env edit (editor_command (value_of item.now)))
+        (UnreleasedEnd turn.old.env edit (editor_command (value_of item.now))) }
+    ensures rests { IfOk result (λ after. StandsOn after (content_of (A.point access.new))) }
+{
+    steps_keep_trees();
+    edit_item(edit, item, access, turn)
 }

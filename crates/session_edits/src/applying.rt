@@ -8,6 +8,7 @@ ghost use Rattle.machine.specs.{Machine.EditStep, Steps.{Looks, Stepped}};
 use crate::giving_up::give_up;
 use access::RepoAccess;
 use editor::CommitEditor;
+use file_texts::Texts;
 use machine::{Phase, Turn};
 use refusals::NotDoneAt;
 use repo_api::Repository;
@@ -18,21 +19,23 @@ use wire_edits::EditorCommand;
 use wire_replies::ReplySink;
 
 /// Applies a command at the repository as it is now.
-fn apply_now<R: Repository, A: RepoAccess<View = R>>(
+fn apply_now<R: Repository, A: RepoAccess<View = R>, T: Texts>(
     editor: &mut CommitEditor<R>,
     command: &EditorCommand,
     access: &mut A,
+    texts: &mut T,
 ) -> Result<(), NotDoneAt>
     requires rests { RestsOn editor.old (content_of (A.point access.old)) }
     requires sound { IsSoundEdit editor.old }
-    ensures { Looks A.rules A.point access.old access.new (λ c. MatchResult result
+    ensures reads { T.reads texts.old texts.new }
+    ensures applied { Looks A.rules A.point access.old access.new (λ c. MatchResult result
         (λ _. (edit_refusal c editor.old command.now ≡ None)
-        × Applies c editor.old command.now editor.new)
+        × Applies (T.is_honest texts.new) c editor.old command.now editor.new)
         (λ fault. IfRefusedAt fault (λ r path. (edit_refusal c editor.old command.now ≡ Some r)
         × (path ≡ refused_at editor.old command.now r)))) }
 {
     let view = access.look()?;
-    editor.apply(command, &view)
+    editor.apply(command, &view, texts)
 }
 
 /// Carries out a command that edits. One that is refused gives the edit up.
@@ -45,10 +48,10 @@ pub fn apply_command<R: Repository, A: RepoAccess<View = R>, S: ReplySink>(
     requires rests { RestsOn edit.editor (content_of (A.point access.old)) }
     requires sound { IsSoundEdit edit.editor }
     ensures { Stepped result S.writes turn.old turn.new A.rules A.point access.old access.new
-        (EditStep turn.old.env edit command.now) }
+        (EditStep (S.is_honest turn.new.out) turn.old.env edit command.now) }
 {
     let mut edit = edit;
-    match apply_now(&mut edit.editor, command, access) {
+    match apply_now(&mut edit.editor, command, access, &mut turn.out) {
         Ok(()) => Ok(Phase::Editing(edit)),
         Err(NotDoneAt::Refused(refusal, path)) => give_up(edit, refusal, path, turn),
         Err(NotDoneAt::NoMemory) => {

@@ -7,6 +7,7 @@ ghost use Rattle.session_replies.specs.Telling.{told_before};
 use crate::directories::say_dir;
 use crate::entries::stat;
 use crate::files::say_file;
+use crate::histories::say_history;
 use crate::locks::{get_lock, say_locks_under};
 use crate::reading::{check_path, say_rev_proplist};
 use crate::revisions::{get_dated_rev, rev_prop};
@@ -52,6 +53,7 @@ fn say_read<R: Repository, S: ReplySink>(
         ReadCommand::GetLocations(command) => {
             locations::say_named(alloc, view, client, command, out)
         }
+        ReadCommand::History(command) => say_history(alloc, view, client, command, out),
     }
 }
 

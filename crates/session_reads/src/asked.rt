@@ -1,5 +1,5 @@
 //! What clients of either kind ask for.
-use commands::{GetLocationsCommand, LogCommand};
+use commands::{GetLocationSegmentsCommand, GetLocationsCommand, LogCommand};
 use history::Place;
 
 /// A place that is asked for, and whether it is by a client of today.
@@ -20,5 +20,12 @@ pub(crate) struct LogAsked<'a> {
 #[derive(Clone, Copy)]
 pub(crate) struct LocationsAsked<'a> {
     pub(crate) command: &'a GetLocationsCommand,
+    pub(crate) is_of_today: bool,
+}
+
+/// Segments that are asked for, and whether they are by a client of today.
+#[derive(Clone, Copy)]
+pub(crate) struct SegmentsAsked<'a> {
+    pub(crate) command: &'a GetLocationSegmentsCommand,
     pub(crate) is_of_today: bool,
 }

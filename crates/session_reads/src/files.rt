@@ -61,7 +61,7 @@ fn say_file_at<R: Repository, S: ReplySink>(
         Some(text) => {
             let told = file_told(alloc, view, command.wants_properties, place, text);
             say_told(alloc, told, out)?;
-            say_wanted(command.wants_contents, text, out)
+            say_wanted(alloc, command.wants_contents, text, out)
         }
         None => {
             let refusal = no_file(view.kind(place.revision, &place.path));
@@ -71,17 +71,26 @@ fn say_file_at<R: Repository, S: ReplySink>(
 }
 
 /// Writes a text, and that it is whole, where it is wanted.
-fn say_wanted<S: ReplySink>(wanted: bool, text: &FileText, out: &mut S) -> Result<(), AllocError>
+fn say_wanted<S: ReplySink>(
+    alloc: Global,
+    wanted: bool,
+    text: &FileText,
+    out: &mut S,
+) -> Result<(), AllocError>
     ensures { Says result (S.writes out.old out.new) (text_told wanted text.now) }
 {
-    if wanted { say_text(text, out) } else { Ok(()) }
+    if wanted {
+        say_text(alloc, text, out)
+    } else {
+        Ok(())
+    }
 }
 
 /// Writes a text, and that it is whole.
-fn say_text<S: ReplySink>(text: &FileText, out: &mut S) -> Result<(), AllocError>
+fn say_text<S: ReplySink>(alloc: Global, text: &FileText, out: &mut S) -> Result<(), AllocError>
     ensures { Says result (S.writes out.old out.new) (contents text.now ++ Reply.Success ∷ []) }
 {
-    say_contents(text, out)?;
+    say_contents(alloc, text, out)?;
     out.say(&Reply::Success)
 }
 

@@ -3,9 +3,11 @@
 
 mod answers;
 mod asked;
+mod deleted;
 mod directories;
 mod entries;
 mod files;
+mod histories;
 mod listing;
 mod locations;
 mod locks;
@@ -16,6 +18,7 @@ mod places;
 mod reading;
 mod refusing;
 mod revisions;
+mod segments;
 
 pub use answers::tell_read;
 pub use revisions::{author_of, date_of, revision_value};

@@ -20,7 +20,7 @@ use svnpath::{Path, PathFault};
 use wire_replies::{Reply, ReplySink};
 
 /// Gives the revision that is named, or the youngest.
-fn or_youngest<R: Repository>(view: &R, revision: Option<u64>) -> u64
+pub(crate) fn or_youngest<R: Repository>(view: &R, revision: Option<u64>) -> u64
     ensures { result ≡ or_youngest (R.content view.now) revision }
 {
     match revision {

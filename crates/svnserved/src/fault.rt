@@ -1,6 +1,7 @@
 //! Why the program ends before its time.
 
 use fsfs_lines::FileFault;
+use health::AskFault;
 use hub::HubFault;
 use serving::{Reason, ServingFault};
 use std::alloc::{AllocError, AllocFailed};
@@ -8,6 +9,9 @@ use std::fmt;
 use store_files::{FileName, StoreFault};
 use store_folder::FolderFault;
 use streams::ServeFault;
+
+/// The number of the failure by which a client is turned away once changes have come to a halt.
+pub const STORE_FAILED: u64 = 160_000;
 
 /// Why the program ends before its time.
 #[derive(Debug, Drop)]
@@ -38,13 +42,17 @@ pub enum ProgramFault {
     NewFolder(FolderFault),
     /// The files of the copy are not written.
     NewStore(StoreFault),
+    /// What a server is to be reached at is no address with a port.
+    Address,
+    /// A server does not say which revision is its youngest.
+    Unanswered(AskFault),
 }
 
 impl ProgramFault {
     /// Gives the status to end with.
     pub fn status(&self) -> u8 {
         match self {
-            ProgramFault::CommandLine(_) | ProgramFault::Name => 2,
+            ProgramFault::CommandLine(_) | ProgramFault::Name | ProgramFault::Address => 2,
             ProgramFault::Serving(fault) if fault.is_of_command_line() => 2,
             _ => 1,
         }
@@ -150,6 +158,21 @@ impl fmt::Display for Unserved<'_> {
     }
 }
 
+/// A fault by which a server does not say which revision is its youngest.
+#[derive(Clone, Copy)]
+struct Unanswered<'a>(&'a AskFault);
+
+impl fmt::Display for Unanswered<'_> {
+    fn fmt<W: fmt::Write>(&self, f: &mut fmt::Formatter<W>) -> fmt::Result {
+        match self.0 {
+            AskFault::Connection(_) | AskFault::Ended => writeln!(f, "svnserved: io"),
+            AskFault::Failed(STORE_FAILED) => writeln!(f, "svnserved: O3"),
+            AskFault::Failed(_) | AskFault::Unknown => writeln!(f, "svnserved: no answer"),
+            AskFault::NoMemory => write!(f, "{}", explain("O4", "out of memory")),
+        }
+    }
+}
+
 impl fmt::Display for ProgramFault {
     fn fmt<W: fmt::Write>(&self, f: &mut fmt::Formatter<W>) -> fmt::Result {
         match self {
@@ -172,6 +195,8 @@ impl fmt::Display for ProgramFault {
             ProgramFault::NotOfFormatTwo => {
                 write!(f, "{}", explain("X6", "there is no repository of format 2"))
             }
+            ProgramFault::Address => writeln!(f, "error: {}", ServingFault::Address),
+            ProgramFault::Unanswered(fault) => write!(f, "{}", Unanswered(fault)),
         }
     }
 }
@@ -213,6 +238,12 @@ impl From<AllocError> for ProgramFault {
 impl<T: Drop> From<AllocFailed<T>> for ProgramFault {
     fn from(_fault: AllocFailed<T>) -> Self {
         ProgramFault::Hub(HubFault::NoMemory)
+    }
+}
+
+impl From<AskFault> for ProgramFault {
+    fn from(fault: AskFault) -> Self {
+        ProgramFault::Unanswered(fault)
     }
 }
 

@@ -4,6 +4,7 @@
 ghost use Rattle.std.specs.Prelude.{◌≡◌, IfOk, None};
 ghost use Rattle.serving.specs.Asked.{CountsAreAsked, OptionsAreAsked};
 
+mod asking;
 mod fault;
 mod migrating;
 mod repositories;
@@ -11,6 +12,7 @@ mod sharing;
 mod told;
 mod version;
 
+use asking::tell_status;
 use command_line::{CommandLineFault, Location, Order, Service, read_command_line};
 use fault::ProgramFault;
 use filed_opening::FolderRepository;
@@ -205,6 +207,7 @@ fn main(rt: HostRuntime) -> ExitCode {
             ),
             Err(fault) => Err(fault),
         },
+        Order::Status { address, name } => tell_status(&rt, address.as_str(), name.as_str()),
         Order::Version => tell_version(&rt),
     };
     status_of(&rt, done, Named::of(&order))

@@ -1,8 +1,9 @@
 //! What a fault was met at, in a line of its own.
 
-use crate::fault::ProgramFault;
+use crate::fault::{ProgramFault, STORE_FAILED};
 use command_line::{Location, Order};
 use fsfs_lines::FileFault;
+use health::AskFault;
 use serving::{Reason, ServingFault};
 use std::fmt;
 use store_files::{FileName, StoreFault};
@@ -70,6 +71,11 @@ impl<'a> Named<'a> {
                 name: service.name.as_str(),
                 listen: service.listen.as_str(),
                 users: service.users.as_str(),
+            },
+            Order::Status { address, name } => Named {
+                name: name.as_str(),
+                listen: address.as_str(),
+                ..nothing
             },
             Order::Version => nothing,
         }
@@ -176,6 +182,25 @@ impl<'a> Named<'a> {
         }
     }
 
+    /// Gives where a server was asked in vain.
+    fn place_of_asking(self, fault: &AskFault) -> Option<Place<'a>> {
+        match fault {
+            AskFault::Connection(error) => failed_place(
+                "cannot reach ",
+                self.listen,
+                Reason::of(error),
+            ),
+            AskFault::Ended => plain_place("the connection was closed at ", self.listen),
+            AskFault::Failed(STORE_FAILED) => plain_place(
+                "changes have come to a halt at ",
+                self.listen,
+            ),
+            AskFault::Failed(_) => plain_place("a client is refused at ", self.listen),
+            AskFault::Unknown => plain_place("no Subversion server is at ", self.listen),
+            AskFault::NoMemory => None,
+        }
+    }
+
     /// Gives where a fault was met, if it was at something that can be named.
     fn place_of(self, fault: &ProgramFault) -> Option<Place<'a>> {
         match fault {
@@ -208,6 +233,8 @@ impl<'a> Named<'a> {
             ProgramFault::Folder(_) => plain_place("the folder is ", self.folder),
             ProgramFault::NewStore(_) => plain_place("in the folder ", self.new),
             ProgramFault::NewFolder(_) => plain_place("the folder is ", self.new),
+            ProgramFault::Address => plain_place("the address is ", self.listen),
+            ProgramFault::Unanswered(fault) => self.place_of_asking(fault),
         }
     }
 }

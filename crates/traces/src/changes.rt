@@ -104,7 +104,7 @@ fn source_place(
 }
 
 /// Says whether a copy brought what is at the path.
-fn is_copied(changes: &[(Path, Change)], path: &Path) -> bool
+pub fn is_copied(changes: &[(Path, Change)], path: &Path) -> bool
     ensures { result ≡ is_copied changes.now path.now }
 {
     match deciding_change(changes, path) {

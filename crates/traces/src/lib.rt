@@ -4,5 +4,5 @@
 mod changes;
 mod place;
 
-pub use changes::{is_touched, next_place, place_before};
+pub use changes::{is_copied, is_touched, next_place, place_before};
 pub use place::Place;

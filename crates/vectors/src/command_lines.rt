@@ -59,6 +59,7 @@ fn ordered(rt: &impl Abort, alloc: Global, order: &Order) -> String {
             format!(in alloc; "stdio {location} {name} {revprops}")
         }
         Order::Serve(service) => Ok(served(rt, alloc, service)),
+        Order::Status { address, name } => format!(in alloc; "status {address} {name}"),
         Order::Version => String::from_str(alloc, "version"),
     };
     text.expect(rt, "memory")
@@ -84,7 +85,7 @@ fn is_asked(rt: &impl Abort, alloc: Global, line: &str, wanted: &str) -> bool {
     is_order(rt, alloc, &read(rt, alloc, line), wanted)
 }
 
-static LINES: [(&str, &str); 22] = [
+static LINES: [(&str, &str); 24] = [
     ("svnserved stdio - --name r", "stdio in memory r false"),
     ("svnserved stdio --name=r -", "stdio in memory r false"),
     (
@@ -128,10 +129,15 @@ static LINES: [(&str, &str); 22] = [
         "svnserved serve - --listen 127.0.0.1:1 --sessions 1 --per-address 1 --name r --users file",
         "serve in memory 127.0.0.1:1 r file 1 1 false false",
     ),
+    (
+        "svnserved status [::1]:3690 --name r",
+        "status [::1]:3690 r",
+    ),
     ("svnserved --help", "help"),
     ("svnserved create --help", "help"),
     ("svnserved migrate --help", "help"),
     ("svnserved serve --help", "help"),
+    ("svnserved status --help", "help"),
     ("svnserved --version", "version"),
     ("svnserved -V", "version"),
 ];
@@ -145,7 +151,7 @@ fn reads_what_is_asked_for(rt: HostRuntime) {
     assert!(rt; are_read);
 }
 
-static OTHER_LINES: [&str; 49] = [
+static OTHER_LINES: [&str; 52] = [
     "svnserved",
     "svnserved stdio",
     "svnserved stdio -",
@@ -192,6 +198,9 @@ static OTHER_LINES: [&str; 49] = [
     "svnserved serve - --listen 127.0.0.1:1 --name r --users file --sessions many",
     "svnserved serve - --listen 127.0.0.1:1 --name r --users file --sessions ",
     "svnserved stdio - --name r --sessions 16",
+    "svnserved status",
+    "svnserved status --name r",
+    "svnserved status 127.0.0.1:1",
     "svnserved other - --name r",
     "svnserved serve --version",
     "svnserved --version=1",

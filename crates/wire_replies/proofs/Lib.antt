@@ -11,3 +11,4 @@ pub mod Frames
 pub mod Telling
 pub mod Whole
 pub mod Rows
+pub mod Given

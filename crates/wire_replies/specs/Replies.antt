@@ -1,5 +1,5 @@
 -- The items that replies are sent as.
-use Rattle.std.specs.{Prelude.{ℕ, Bool, List, [], ◌∷◌, ◌++◌, Option, Some, None, codes, if◌then◌else◌, map}, Int.{to_be_bytes, w128}, List.flat_map}
+use Rattle.std.specs.{Prelude.{ℕ, Bool, List, [], ◌∷◌, ◌++◌, Option, Some, None, codes, drop, if◌then◌else◌, map}, Int.{to_be_bytes, w128}, List.flat_map}
 use Rattle.uuid.specs.Text.{hyphenated_text, lower}
 use Rattle.wire_edits.specs.Printing.{command_item}
 use Rattle.items.specs.{Print.printed, Values.{both, ItemValue, ItemValues, list, more, none, number, only, string, word}, View.row_of}
@@ -17,7 +17,7 @@ use Rattle.wire_replies.specs.{declared.histories.LoggedChange.LoggedChange, dec
 use Rattle.wire_replies.specs.{declared.reply.Offer.TheVariants.{Anonymous, AnonymousOrUser, User}, declared.reply.Reply.Reply}
 use Rattle.wire_replies.specs.declared.reply.Reply.TheVariants.{Greeting, NoLogin, Login, MechanismNotOffered, Challenge, LoginFailed, Success, ReposInfo}
 use Rattle.wire_replies.specs.declared.reply.Reply.TheVariants.{Revision, Kind, Properties, Lock, Locks, CommitInfo, FileInfo, Piece, DirectoryInfo, Stat}
-use Rattle.wire_replies.specs.declared.reply.Reply.TheVariants.{RevisionProperty, LogEntry, Location, Edit, Done, Failure, Failures}
+use Rattle.wire_replies.specs.declared.reply.Reply.TheVariants.{RevisionProperty, LogEntry, Location, Segment, Edit, Done, Failure, Failures}
 
 -- the text of a number of 128 bits: `8-4-4-4-12` lower-case hexadecimal digits
 abbrev pub uuid_text : ℕ → List ℕ
@@ -132,6 +132,20 @@ log_entry entry =
 abbrev pub location_item : ℕ → PathValue → ItemValue
 location_item revision path = list (both (number revision) (string (path_text path)))
 
+-- the text of a path without the slash before it: the root's is empty
+abbrev pub bare_text : PathValue → List ℕ
+bare_text path = drop 1 (path_text path)
+
+-- `[ path ]`
+abbrev pub bare_path_trees : Option PathValue → ItemValues
+bare_path_trees None = none
+bare_path_trees (Some path) = only (string (bare_text path))
+
+-- `( first last [ path ] )`: where something was in these revisions, or that it was nowhere
+abbrev pub segment_item : ℕ → ℕ → Option PathValue → ItemValue
+segment_item first last path =
+    list (more (number first) (both (number last) (list (bare_path_trees path))))
+
 -- `( path token owner [ comment ] created ( ) )`: a lock at a path; no lock has an end
 abbrev pub lock_tree : PathValue → LockValue → ItemValue
 lock_tree path lock =
@@ -203,6 +217,7 @@ reply_item (Stat node) = success (only (list (stat_trees node)))
 reply_item (RevisionProperty value) = success (only (list (optional_string_trees value)))
 reply_item (LogEntry entry) = log_entry entry
 reply_item (Location revision path) = location_item revision path
+reply_item (Segment first last path) = segment_item first last path
 reply_item (Edit command) = command_item command
 reply_item Done = word (codes "done")
 reply_item (Failure refusal path) =

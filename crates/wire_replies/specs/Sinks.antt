@@ -27,3 +27,6 @@ pub appends_more : (s t u first second : List ℕ) → t ≡ s ++ first → u �
     → u ≡ s ++ (first ++ second)
 appends_more s t u first second x y =
     y ∙ ap (λ (z : List ℕ). z ++ second) x ∙ append_assoc s first second
+
+pub appends_same : (s t : List ℕ) → t ≡ s → t ≡ s ++ []
+appends_same s t is = is ∙ appends_nothing s

@@ -5,7 +5,7 @@ ghost use Rattle.wire_replies.specs.{Pieces.piece_from, Replies.contents, Sinks.
 use crate::reply::Reply;
 use crate::sink::ReplySink;
 use repo_api::FileText;
-use std::alloc::AllocError;
+use std::alloc::{AllocError, Global};
 use std::marker::Model;
 use std::mem::drop;
 
@@ -77,8 +77,8 @@ fn at_most(count: usize, bytes: &[u8]) -> &[u8]
     }
 }
 
-/// Writes a text: its pieces, and an empty string behind them.
-pub fn say_contents<S: ReplySink>(text: &FileText, out: &mut S) -> Result<(), AllocError>
+/// Writes a text whose bytes are in memory: its pieces, and an empty string after them.
+pub fn say_held<S: ReplySink>(text: &FileText, out: &mut S) -> Result<(), AllocError>
     ensures { Says result (S.writes out.old out.new) (contents text.now) }
 {
     let count = text.as_slice().len().div_ceil(PIECE);
@@ -106,5 +106,19 @@ fn say_last<S: ReplySink>(out: &mut S) -> Result<(), AllocError>
     let reply = Reply::Piece(TextPiece::last());
     let said = out.say(&reply);
     drop(reply);
+    said
+}
+
+/// Writes a text, which is read whole before: its pieces, and an empty string after them.
+pub fn say_contents<S: ReplySink>(
+    alloc: Global,
+    text: &FileText,
+    out: &mut S,
+) -> Result<(), AllocError>
+    ensures { Says result (S.writes out.old out.new) (contents text.now) }
+{
+    let loaded = out.load(alloc, text)?;
+    let said = say_held(&loaded, out);
+    drop(loaded);
     said
 }

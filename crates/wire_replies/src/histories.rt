@@ -1,7 +1,7 @@
 //! Logs, and where something was, as items.
 ghost use Rattle.std.specs.Prelude.{◌≡◌, ℕ, List, [], IfOk};
 ghost use Rattle.items.specs.{Print.printed, Values.{both, list, more, string, word}, View.value_of, Word.IsWord};
-ghost use Rattle.wire_replies.specs.Replies.{action_word, boolean_name, change_tree, change_trees, kind_word, location_item, log_entry, logged_change};
+ghost use Rattle.wire_replies.specs.Replies.{action_word, bare_path_trees, bare_text, boolean_name, change_tree, change_trees, kind_word, location_item, log_entry, logged_change, segment_item};
 ghost use Rattle.wire_replies.specs.{Parts.{log_end, log_head}, Replies.source_trees, Sinks.Writes};
 ghost use Rattle.wire_replies.specs.declared.histories.{LogFacts.LogFacts, LoggedChange.LoggedChange};
 
@@ -156,6 +156,41 @@ pub(crate) fn location_item(alloc: Global, revision: u64, path: &Path) -> Result
 {
     let path = path_item(alloc, path)?;
     list_item(alloc, [number_item(revision), path])
+}
+
+/// Makes a string of the text of a path, without the slash before it.
+fn bare_path_item(alloc: Global, path: &Path) -> Result<Item, AllocError>
+    ensures { IfOk result (λ item. value_of item ≡ string (bare_text path.now)) }
+{
+    let mut text = Vec::new(alloc);
+    path.append_text(&mut text)?;
+    match text.as_slice().split_first() {
+        None => string_item(alloc, b""),
+        Some((_, rest)) => string_item(alloc, rest),
+    }
+}
+
+/// Makes `[ path ]`.
+fn optional_path_item(alloc: Global, path: &Option<Path>) -> Result<Item, AllocError>
+    ensures { IfOk result (λ item. value_of item ≡ list (bare_path_trees path.now)) }
+{
+    match path {
+        Some(path) => list_item(alloc, [bare_path_item(alloc, path)?]),
+        None => list_item(alloc, []),
+    }
+}
+
+/// Makes `( first last [ path ] )`.
+pub(crate) fn segment_item(
+    alloc: Global,
+    first: u64,
+    last: u64,
+    path: &Option<Path>,
+) -> Result<Item, AllocError>
+    ensures { IfOk result (λ item. value_of item ≡ segment_item first last path.now) }
+{
+    let path = optional_path_item(alloc, path)?;
+    list_item(alloc, [number_item(first), number_item(last), path])
 }
 
 /// Gives the letter of an action.

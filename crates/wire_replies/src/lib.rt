@@ -8,13 +8,13 @@ mod failures;
 mod histories;
 mod laws;
 mod locks;
+mod numbers;
 mod properties;
 mod reply;
 mod saying;
 mod sink;
-mod texts;
 
-pub use contents::{PIECE, TextPiece, say_contents};
+pub use contents::{PIECE, TextPiece, say_contents, say_held};
 pub use entries::{
     DirectoryInfo, EntryList, FileInfo, NodeInfo, say_directory_end, say_directory_head, say_entry,
     say_file_info,
@@ -25,8 +25,8 @@ pub use histories::{
 };
 pub use laws::pieces_make_the_text;
 pub use locks::{LockList, copied_locks, say_locks};
+pub use numbers::{decimal_text, uuid_text};
 pub use properties::say_properties;
 pub use reply::{Offer, Reply};
 pub use saying::{say_both, say_item, say_made, say_new, tell_refusal};
 pub use sink::{MemorySink, ReplySink};
-pub use texts::{decimal_text, uuid_text};

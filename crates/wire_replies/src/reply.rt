@@ -10,10 +10,10 @@ use crate::entries::{
     DirectoryInfo, FileInfo, NodeInfo, directory_info_item, file_info_item, stat_item,
 };
 use crate::failures::{FailureLinks, failures_item};
-use crate::histories::{LogEntry, location_item, log_entry_item};
+use crate::histories::{LogEntry, location_item, log_entry_item, segment_item};
 use crate::locks::{LockList, lock_item, locks_item};
+use crate::numbers::uuid_text;
 use crate::properties::properties_item;
-use crate::texts::uuid_text;
 use byte_string::ByteString;
 use items::{Item, append_string, write_item};
 use refusals::Refusal;
@@ -78,9 +78,11 @@ pub enum Reply {
     LogEntry(LogEntry),
     /// Where something was in a revision.
     Location(u64, Path),
+    /// The path that something had from the one revision to the other, or that it was nowhere.
+    Segment(u64, u64, Option<Path>),
     /// A command of a drive.
     Edit(EditorCommand),
-    /// No further revision of a log comes, or no further location.
+    /// No further revision of a log comes, or no further location or segment.
     Done,
     /// The command is refused, and the path at which it is, if that is told.
     Failure(Refusal, Option<Path>),
@@ -112,6 +114,7 @@ impl Drop for Reply {
             Reply::RevisionProperty(_) => {}
             Reply::LogEntry(_) => {}
             Reply::Location(_, _) => {}
+            Reply::Segment(_, _, _) => {}
             Reply::Edit(_) => {}
             Reply::Done => {}
             Reply::Failure(_, _) => {}
@@ -171,6 +174,10 @@ impl Reply {
             Reply::LogEntry(entry) => write_made(log_entry_item(alloc, entry), out),
             Reply::Location(revision, path) => write_made(
                 location_item(alloc, *revision, path),
+                out,
+            ),
+            Reply::Segment(first, last, path) => write_made(
+                segment_item(alloc, *first, *last, path),
                 out,
             ),
             Reply::Edit(command) => write_command(command, out),

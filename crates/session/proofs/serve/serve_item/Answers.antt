@@ -30,8 +30,11 @@ returns-in-Challenged g c = rw c.in-Challenged.is (unparted _ _ _ _ _ _ c.challe
 pub returns-in-Serving : goal.returns-in-Serving
 returns-in-Serving g c = rw c.in-Serving.is (unparted _ _ _ _ _ _ c.main_item.result _ c.main_item.ensures)
 
+pub edit_input-requires : goal.edit_input-requires
+edit_input-requires g c = rw c.in-Editing.is at c.requires.rests
+
 pub returns-in-Editing : goal.returns-in-Editing
-returns-in-Editing g c = rw c.in-Editing.is c.edit_item.ensures
+returns-in-Editing g c = rw c.in-Editing.is (c.edit_input.ensures.step (c.requires.held _))
 
 pub returns-in-Skipping : goal.returns-in-Skipping
 returns-in-Skipping g c =

@@ -12,7 +12,7 @@ returns-in-Some-Commits g c =
 pub returns-in-Some-GivesUp : goal.returns-in-Some-GivesUp
 returns-in-Some-GivesUp g c =
     let is : ending_of c.args.command.now ≡ Some GivesUp = sym c.ending_of.ensures ∙ c.in-Some-GivesUp.is ∙ ap Some c.in-Some-GivesUp.field-0-is in
-    unparted _ _ _ _ _ _ _ _ (stepped (aborts _ _ c.args.edit c.args.command.now _ (g.met.A.RepoAccess.stays _) is) _ c.abort.result _ c.abort.ensures)
+    unparted _ _ _ _ _ _ _ _ (stepped (aborts (g.S.Texts.is_honest _) _ _ c.args.edit c.args.command.now _ (g.met.A.RepoAccess.stays _) is) _ c.abort.result _ c.abort.ensures)
 
 pub returns-in-None : goal.returns-in-None
 returns-in-None g c =

@@ -9,17 +9,15 @@ use Rattle.hub.proofs.hub.Hub.feed_open.Goals as goal
 pub index_mut-entry-requires : goal.index_mut-entry-requires
 index_mut-entry-requires g c =
     let h = hub_at c.self.inside.options (g.A.RepoAccess.point c.self.inside.access) c.self.inside.sessions.items c.self.inside.used in
-    let lt = (finds_here h c.args.self.now c.args.number c.args.i c.self.view_is c.requires).lt in
+    let lt = (finds_here h c.args.self.now c.args.number c.args.i c.self.view_is c.requires.found).lt in
     omega (arith, c.self.inside.sessions.ok.0)
 
-pub feed-fed-requires : goal.feed-fed-requires
-feed-fed-requires g c =
+pub feed-fed-requires-clause-rests : goal.feed-fed-requires-clause-rests
+feed-fed-requires-clause-rests g c =
     let h = hub_at c.self.inside.options (g.A.RepoAccess.point c.self.inside.access) c.self.inside.sessions.items c.self.inside.used in
     let entry = c.index_mut-entry.result.now in
-    record {
-      rests = entry_rests h c.args.number entry c.self.invariant.1
-          (is_entry h c.args.self.now c.args.number c.args.i entry c.self.view_is c.self.invariant.0 c.requires c.index_mut-entry.ensures.value);
-    }
+    entry_rests h c.args.number entry c.self.invariant.1
+    (is_entry h c.args.self.now c.args.number c.args.i entry c.self.view_is c.self.invariant.0 c.requires.found c.index_mut-entry.ensures.value)
 
 -- what the session was fed
 abbrev feed : (g : Over) (c : goal.Joined-fed g) → Feed
@@ -41,8 +39,8 @@ fed g c =
     let h = hub_at c.self.inside.options (g.A.RepoAccess.point c.self.inside.access) c.self.inside.sessions.items c.self.inside.used in
     let entry = c.index_mut-entry.result.now in
     is_fed c.self.inside.options c.args.self.now (feed g c) c.args.i entry.0 c.is_open-is_open.result c.self.view_is
-    (is_entry h c.args.self.now c.args.number c.args.i entry c.self.view_is c.self.invariant.0 c.requires c.index_mut-entry.ensures.value)
-    c.requires c.is_open-is_open.ensures c.drop_if_ended.ensures
+    (is_entry h c.args.self.now c.args.number c.args.i entry c.self.view_is c.self.invariant.0 c.requires.found c.index_mut-entry.ensures.value)
+    c.requires.found c.is_open-is_open.ensures c.drop_if_ended.ensures
 
 pub invariant_of-self : goal.invariant_of-self
 invariant_of-self g c =

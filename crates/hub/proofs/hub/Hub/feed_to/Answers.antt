@@ -15,7 +15,7 @@ returns-in_default g c =
     (sym c.is_halted.ensures ∙ c.if-is_halted.false, none) in
     ((known.0, known.1, refl), g.met.S.ReplySink.nothing _)
 
-pub feed_open-requires : goal.feed_open-requires
-feed_open-requires g c =
+pub feed_open-requires-clause-found : goal.feed_open-requires-clause-found
+feed_open-requires-clause-found g c =
     let here = subst (λ (xs : List (ℕ × SessionState)). Finds xs c.args.number c.in-Some.i) c.deref.ensures.value c.in-Some.ensures in
     subst (λ (h : HubState). Finds h.sessions c.args.number c.in-Some.i) c.self.view_is here

@@ -1,0 +1,5 @@
+pub mod Stretches
+pub mod Cutting
+pub mod Exact
+pub mod Searching
+mod Rows

@@ -1,0 +1,3 @@
+pub mod Segments
+pub mod Deleted
+pub mod Laws
