@@ -6,7 +6,7 @@ use Rattle.std.proofs.lemmas.Option.{same_Some}
 use Rattle.std.specs.Prelude.{IsSome, is_some}
 use Rattle.svnpath.specs.PathLaws.{rest_append, same_component_is, same_component_refl, under_append, under_is}
 use Rattle.svnpath.specs.Paths.{Component, is_at_or_under, PathValue, same_component}
-use Rattle.repo_api.specs.{Properties.PropertyList, Readings.names_at, States.{RepoState, tree_at, trees_in}, Trees.{content_text, revision_of, Tree}}
+use Rattle.repo_api.specs.{Properties.PropertyList, Readings.{is_name_among, names_at}, States.{RepoState, tree_at, trees_in}, Trees.{content_text, revision_of, Tree}}
 use Rattle.repo_api.specs.{declared.entry.Content.Content, declared.entry.Content.TheVariants.{Directory, File}, declared.entry.Entry.Entry}
 use Rattle.drive_rules.proofs.Joined.{any_append, or_left, or_right, and_both}
 use Rattle.drive_rules.specs.{Scopes.{below, depth_below}, Steps.{node_of, property_values}, declared.depth.Depth.Depth}
@@ -19,7 +19,7 @@ use Rattle.drive_reports.proofs.Holding.{comparable}
 use Rattle.drive_reports.specs.Reported.{ReportedTree, has_place, in_graft, in_subtree, left_by, reported_as, with_graft}
 use Rattle.drive_reports.specs.{Aims.aim_at, Targets.{WholeReport, due_in, new_tree, old_tree}, declared.graft.Graft.Graft, declared.graft.Subtree.Subtree}
 use Rattle.drive_sides.proofs.{Listing.{among_over, among_target, above_child, in_new, in_old, under_target}, Naming.among_there}
-use Rattle.drive_sides.specs.{BoundLaws.new_is_shorter, Bounds.path_bound, LeadLaws.news_leads, Names.{children_of, graft_names, is_name_among}}
+use Rattle.drive_sides.specs.{BoundLaws.new_is_shorter, Bounds.path_bound, LeadLaws.news_leads, Names.{children_of, graft_names}}
 use Rattle.drive_sides.specs.Plans.{drive_trees}
 
 -- ---- whether entries differ

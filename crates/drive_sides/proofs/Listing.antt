@@ -4,7 +4,7 @@ use Rattle.std.proofs.{Common.{Err, ◌⊎◌, inl, inr, ⊎_elim, refl, sym, ap
 use Rattle.std.proofs.lemmas.List.{append-nil, length-append}
 use Rattle.std.specs.{List.list_any, Prelude.{IsTrue, IsSome, IsSomeAnd, IfOk, OnOk, is_some}}
 use Rattle.svnpath.specs.{PathLaws.{same_component_refl, under_append, under_is}, Paths.{Component, is_at_or_under, PathValue}}
-use Rattle.repo_api.specs.{Readings.{name_in, names_at}, States.{RepoState, tree_at, trees_in}, Trees.{is_directory, Tree}, declared.entry.Entry.Entry}
+use Rattle.repo_api.specs.{Readings.{is_name_among, name_in, names_at}, States.{RepoState, tree_at, trees_in}, Trees.{is_directory, Tree}, declared.entry.Entry.Entry}
 use Rattle.drive_rules.proofs.{Joined.{or_left, or_right}, Entries.{no_length, under_more}}
 use Rattle.drive_rules.specs.{Scopes.{below, depth_below, HoldsTogether, within}, declared.depth.Depth.Depth}
 use Rattle.drive_rules.specs.declared.depth.Depth.TheVariants.{Empty, Files, Immediates, Infinity}
@@ -13,7 +13,7 @@ use Rattle.drive_reports.specs.Places.{AllHoldTogether, in_place, is_grafted_ove
 use Rattle.drive_reports.specs.Reported.{ReportedEntry, left_by, reported_entries, reported_as}
 use Rattle.drive_reports.specs.{Aims.aim_at, Targets.{WholeReport, client_entries, client_tree, drive_scope, new_tree, old_tree, target_entries}}
 use Rattle.drive_reports.specs.{declared.graft.Graft.Graft, declared.reported.ReportedPlace.ReportedPlace}
-use Rattle.drive_sides.specs.{Depths.IsAlone, Names.{is_name_among, graft_names, NameNew, NameTarget}}
+use Rattle.drive_sides.specs.{Depths.IsAlone, Names.{graft_names, NameNew, NameTarget}}
 use Rattle.drive_sides.proofs.Naming.{among_there, among_grafts, is_named, name_of_child}
 
 -- ---- what is to stand there

@@ -7,8 +7,8 @@ use Rattle.std.specs.{declared.cmp.Ordering.TheVariants.{Less, Equal, Greater}, 
 use Rattle.svnpath.specs.PathLaws.{rest_append, same_component_is, same_component_refl, same_path_is, under_append}
 use Rattle.svnpath.specs.Paths.{Component, PathValue, same_component, same_path}
 use Rattle.drive_rules.proofs.Joined.{or_left, or_right}
-use Rattle.repo_api.specs.{Readings.{name_in, names_among, names_in, sole}, States.TreeMap}
-use Rattle.drive_sides.specs.{BoundLaws.key_found, Names.{is_name_among, graft_names, AreDistinct}}
+use Rattle.repo_api.specs.{Readings.{is_name_among, name_in, names_among, names_in, sole}, States.TreeMap}
+use Rattle.drive_sides.specs.{BoundLaws.key_found, Names.{graft_names, AreDistinct}}
 use Rattle.drive_reports.specs.declared.graft.Graft.{Graft}
 use denote.Ref.{Bor}
 

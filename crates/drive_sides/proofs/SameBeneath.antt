@@ -1,5 +1,5 @@
 -- Where both sides are the same.
-use Rattle.drive_sides.specs.{Depths.IsWhole, Lines.KeepsLines, Pairs.{AreOnePair, IsOfAll, IsPairAt}, Plans.drive_trees, declared.pairs.EntryPair.EntryPair}
+use Rattle.drive_sides.specs.{Depths.IsWhole, Lines.KeepsLines, Pairs.{AreOnePair, HasNoGraft, IsOfAll, IsPairAt, IsPairBeside}, Plans.drive_trees, declared.pairs.EntryPair.EntryPair}
 use Rattle.std.proofs.Common.{◌≡◌, ◌<◌, arith, if◌then◌else◌, ℕ, Bool, true, false, cond, ◌&&◌, ◌||◌, not, List, [], ◌∷◌, ◌++◌, length, drop, Option, Some, None, refl, sym}
 use Rattle.std.proofs.{Common.{ap, ◌∙◌, subst, option_map}, lemmas.Bool.false≢true, lemmas.List.{append_assoc, append-nil, length-append}}
 use Rattle.std.specs.{List.list_any, Option.option_map_or, Prelude.{IfSome, IsSomeAnd, IsTrue, is_some, option_and_then}}
@@ -11,6 +11,7 @@ use Rattle.reporter.specs.Walks.{AreAlike, IsSamePair}
 use Rattle.traces.specs.declared.place.Place.{Place}
 use Rattle.history.specs.{Lines.{is_one_line, line_start, place_beneath, same_place}, Logs.place_at}
 use Rattle.history.proofs.AllLines.{one_line_met}
+use Rattle.drive_sides.proofs.Ungrafted.{entry_in, line_in, not_over}
 use Rattle.drive_reports.proofs.{Aiming.{Line, all_stay, entry_beneath, keeps_line_in, line_beneath, same_kind, same_stays, stays_entry, stays_next}, Holding.{all_hold, longer_below}, Whole.in_whole}
 use Rattle.drive_reports.specs.{Aims.{aim_at, are_of_one_kind, counts_ancestry, is_of_line}, Depths.{asks_for_all, is_to_the_end}, Places.{AllHoldTogether, in_place, is_grafted_over, reported_subtree}}
 use Rattle.drive_reports.specs.{Reported.{ReportedEntry, reported_entries, left_by, reported_as, top_entry}, Targets.{WholeReport, client_entries, client_tree, drive_scope}}
@@ -237,6 +238,88 @@ module _ (s : RepoState) (report : WholeReport) (p : PathValue) (place : Reporte
       inside : (rest : List Component) → drive_scope s report (p ++ rest) ≡ true
       inside rest = all (p ++ rest) (under_more (p ++ rest) p report.ask.target (under_append p rest) up)
 
+-- the same of the entries that have no graft, whatever grafts there are beneath others
+module _ (s : RepoState) (report : WholeReport) (p : PathValue) (place : ReportedPlace) (together : AllHoldTogether s.revisions)
+    (beneath : (rest : List Component) → is_grafted_over report.grafts p (p ++ rest) ≡ false → client_tree s report (p ++ rest) ≡ in_place (trees_in s.revisions) place rest)
+    (full : IsWhole place) (up : is_at_or_under p report.ask.target ≡ true) (stays : (aim_at s report p).stays ≡ true)
+    (x : Component) (rest : List Component) (none : HasNoGraft report.grafts p x) where
+  shown_in : client_tree s report (p ++ x ∷ rest) ≡ in_place (trees_in s.revisions) place (x ∷ rest)
+  shown_in = beneath (x ∷ rest) (not_over report.grafts p x rest none)
+
+  client_in : reported_entries (client_tree s report) (p ++ x ∷ rest) ≡ trees_in s.revisions place.revision (place.path ++ x ∷ rest)
+  client_in =
+      ap (option_map (λ (h : ReportedEntry). h.entry)) shown_in
+      ∙ in_whole (trees_in s.revisions) place.path (reported_subtree place.revision place.starts_empty place.depth place.token) (x ∷ rest) full.0 full.1
+
+  target_in : target_entries s report (p ++ x ∷ rest) ≡ trees_in s.revisions report.ask.revision ((aim_at s report p).from ++ x ∷ rest)
+  target_in =
+      ap (λ b. cond b (aim_at s report (p ++ x ∷ rest)).entry None) (under_more (p ++ x ∷ rest) p report.ask.target (under_append p (x ∷ rest)) up)
+      ∙ entry_in s report together p x none up (stays_entry s report p up stays) rest
+
+  had_in : IfSome (client_tree s report (p ++ x ∷ rest)) (IsFrom place.revision (place.path ++ x ∷ rest))
+  had_in = subst (λ o. IfSome o (IsFrom place.revision (place.path ++ x ∷ rest))) (sym shown_in) (from_place (trees_in s.revisions) place (x ∷ rest))
+
+  fresh_in : due_in s report (p ++ x ∷ rest) ≡ false
+  fresh_in = and_none (drive_scope s report (p ++ x ∷ rest)) _ (ap (λ b. b || is_to_be_opened s report (p ++ x ∷ rest)) quiet ∙ settled)
+    where
+      quiet : is_stale s report (p ++ x ∷ rest) ≡ false
+      quiet =
+          and_none (keeps_report s report (p ++ x ∷ rest)) _ (ap (is_stale_token s.locks (aim_at s report (p ++ x ∷ rest)).from (target_entries s report (p ++ x ∷ rest)))
+          (ap (option_and_then (λ (h : ReportedEntry). h.token)) shown_in ∙ no_token (trees_in s.revisions) place x rest))
+
+      settled : is_to_be_opened s report (p ++ x ∷ rest) ≡ false
+      settled =
+          and_none report.ask.is_of_today _ (and_none (aim_at s report (p ++ x ∷ rest)).stays _
+          (ap (λ o. option_map_or (is_written_anew report.ask) o false) shown_in ∙ settled_in (trees_in s.revisions) report.ask place (x ∷ rest) full))
+
+-- a place of which all is asked for has a pair beside what has a graft
+beside_there : (s : RepoState) (report : WholeReport) (p : PathValue) (place : ReportedPlace) → AllHoldTogether s.revisions
+    → ((rest : List Component) → is_grafted_over report.grafts p (p ++ rest) ≡ false → client_tree s report (p ++ rest) ≡ in_place (trees_in s.revisions) place rest)
+    → IsWhole place → is_at_or_under p report.ask.target ≡ true → (aim_at s report p).stays ≡ true → IsOfAll s report
+    → (pair : EntryPair) → pair.revision ≡ place.revision → pair.old.now ≡ place.path → pair.new.now ≡ (aim_at s report p).from → IsPairBeside s report p pair
+beside_there s report p place together beneath full up stays all pair revision old new = record {
+  all = all;
+  stays = stays;
+  led = sym new;
+  had = λ x rest none.
+      subst (λ n. IfSome (client_tree s report (p ++ x ∷ rest)) (λ h. (h.revision ≡ n) × (h.from ≡ pair.old.now ++ x ∷ rest))) (sym revision)
+      (subst (λ y. IfSome (client_tree s report (p ++ x ∷ rest)) (λ h. (h.revision ≡ place.revision) × (h.from ≡ y ++ x ∷ rest))) (sym old)
+      (had_in s report p place together beneath full up stays x rest none));
+  old = λ x rest none.
+      ap (λ b. cond b (reported_entries (client_tree s report) (p ++ x ∷ rest)) None) (inside (x ∷ rest))
+      ∙ client_in s report p place together beneath full up stays x rest none
+      ∙ sym (ap (λ n. trees_in s.revisions n (pair.old.now ++ x ∷ rest)) revision ∙ ap (λ y. trees_in s.revisions place.revision (y ++ x ∷ rest)) old);
+  new = λ x rest none.
+      ap (λ b. cond b (target_entries s report (p ++ x ∷ rest)) None) (inside (x ∷ rest))
+      ∙ target_in s report p place together beneath full up stays x rest none
+      ∙ sym (ap (λ y. trees_in s.revisions report.ask.revision (y ++ x ∷ rest)) new);
+  fresh = fresh_in s report p place together beneath full up stays;
+}
+  where
+    inside : (rest : List Component) → drive_scope s report (p ++ rest) ≡ true
+    inside rest = all (p ++ rest) (under_more (p ++ rest) p report.ask.target (under_append p rest) up)
+
+-- as has a pair
+pub pair_beside : (s : RepoState) (report : WholeReport) (p : PathValue) (pair : EntryPair) → IsPairAt s report p pair → IsPairBeside s report p pair
+pair_beside s report p pair is = record {
+  all = is.all;
+  stays = is.stays;
+  led = is.led;
+  had = λ x rest none. is.had (x ∷ rest);
+  old = λ x rest none. is.old (x ∷ rest);
+  new = λ x rest none. is.new (x ∷ rest);
+  fresh = λ x rest none. is.fresh (x ∷ rest);
+}
+
+-- a pair beside grafts that was made of a place, if it was
+pub beside_given : (s : RepoState) (report : WholeReport) (p : PathValue) (place : ReportedPlace) → AllHoldTogether s.revisions
+    → ((rest : List Component) → is_grafted_over report.grafts p (p ++ rest) ≡ false → client_tree s report (p ++ rest) ≡ in_place (trees_in s.revisions) place rest)
+    → is_at_or_under p report.ask.target ≡ true → (aim_at s report p).stays ≡ true → IsOfAll s report → (goal : PathValue) → goal ≡ (aim_at s report p).from
+    → (o : Option EntryPair) → IfSome o (λ pair. IsWhole place × (place.token ≡ None)) → IfSome o (λ pair. (pair.revision ≡ place.revision) × (pair.old.now ≡ place.path) × (pair.new.now ≡ goal))
+    → IfSome o (IsPairBeside s report p)
+beside_given s report p place together beneath up stays all goal there None whole is = is
+beside_given s report p place together beneath up stays all goal there (Some pair) whole is = beside_there s report p place together beneath whole.0 up stays all pair is.0 is.1 (is.2 ∙ there)
+
 -- the line of what is beneath a pair is that of its places
 line_of_pair : (s : RepoState) (report : WholeReport) (p : PathValue) (pair : EntryPair) → AllHoldTogether s.revisions → is_at_or_under p report.ask.target ≡ true → IsPairAt s report p pair
     → (y : Component) (r : List Component)
@@ -261,13 +344,23 @@ had_above s report together p (x ∷ rest) up some =
     some_and None h = absurd h
     some_and (Some e) h = refl
 
--- in a directory that has a pair, what the repository has as the same is alike, where lines let it stay
-pub alike_in_pair : (s : RepoState) (report : WholeReport) (p : PathValue) (pair : EntryPair) (x : Component) → AllHoldTogether s.revisions → is_at_or_under p report.ask.target ≡ true → IsPairAt s report p pair
-    → IsSameAt s pair.revision (pair.old.now ++ x ∷ []) report.ask.revision (pair.new.now ++ x ∷ [])
+-- and so is that of an entry without a graft
+line_beside : (s : RepoState) (report : WholeReport) (p : PathValue) (pair : EntryPair) → AllHoldTogether s.revisions → is_at_or_under p report.ask.target ≡ true → IsPairBeside s report p pair
+    → (y : Component) (r : List Component) → HasNoGraft report.grafts p y
+    → keeps_line_in s report p y r
+    ≡ (not (counts_ancestry report.ask) || (is_some (client_tree s report (p ++ y ∷ r)) && is_one_line (history_of s) (place_at pair.revision (pair.old.now ++ y ∷ r)) (place_at report.ask.revision (pair.new.now ++ y ∷ r))))
+line_beside s report p pair together up is y r none =
+    line_in s report together p y none up r
+    ∙ ap (λ l. not (counts_ancestry report.ask) || l) (line_had s report.ask (client_tree s report (p ++ y ∷ r)) pair.revision (pair.old.now ++ y ∷ r) ((aim_at s report p).from ++ y ∷ r) (is.had y r none))
+    ∙ ap (λ f. not (counts_ancestry report.ask) || (is_some (client_tree s report (p ++ y ∷ r)) && is_one_line (history_of s) (place_at pair.revision (pair.old.now ++ y ∷ r)) (place_at report.ask.revision (f ++ y ∷ r)))) is.led
+
+-- in a directory that has a pair, what the repository has as the same at an entry without a graft is alike, where lines let it stay
+pub alike_in_pair : (s : RepoState) (report : WholeReport) (p : PathValue) (pair : EntryPair) (x : Component) → AllHoldTogether s.revisions → is_at_or_under p report.ask.target ≡ true → IsPairBeside s report p pair
+    → HasNoGraft report.grafts p x → IsSameAt s pair.revision (pair.old.now ++ x ∷ []) report.ask.revision (pair.new.now ++ x ∷ [])
     → KeepsLines s report.ask (place_at pair.revision (pair.old.now ++ x ∷ [])) (place_at report.ask.revision (pair.new.now ++ x ∷ [])) → AreAlike (drive_trees s report) (p ++ x ∷ [])
-alike_in_pair s report p pair x together up is equal lines q under =
+alike_in_pair s report p pair x together up is none equal lines q under =
     subst (λ y. (old_tree s report y ≡ new_tree s report y) × (due_in s report y ≡ false) × (IsInBoth (old_tree s report) (new_tree s report) y → is_apart s report y ≡ false)) (sym there)
-    (same r, is.fresh (x ∷ r), kept r)
+    (same r, is.fresh x r none, kept r)
   where
     r : PathValue
     r = drop (length (p ++ x ∷ [])) q
@@ -277,9 +370,9 @@ alike_in_pair s report p pair x together up is equal lines q under =
 
     same : (rest : List Component) → old_tree s report (p ++ x ∷ rest) ≡ new_tree s report (p ++ x ∷ rest)
     same rest =
-        is.old (x ∷ rest)
+        is.old x rest none
         ∙ ap (trees_in s.revisions pair.revision) (sym (append_assoc pair.old.now (x ∷ []) rest)) ∙ equal rest ∙ ap (trees_in s.revisions report.ask.revision) (append_assoc pair.new.now (x ∷ []) rest)
-        ∙ sym (is.new (x ∷ rest))
+        ∙ sym (is.new x rest none)
 
     inside : (rest : List Component) → is_at_or_under (p ++ x ∷ rest) report.ask.target ≡ true
     inside rest = under_more (p ++ x ∷ rest) p report.ask.target (under_append p (x ∷ rest)) up
@@ -301,7 +394,7 @@ alike_in_pair s report p pair x together up is equal lines q under =
     -- and lines let it stay
     line : (rest : List Component) → is_some (client_entries s report (p ++ x ∷ rest)) ≡ true → keeps_line_in s report p x rest ≡ true
     line rest some =
-        line_of_pair s report p pair together up is x rest
+        line_beside s report p pair together up is x rest none
         ∙ ap (λ b. not (counts_ancestry report.ask) || (b && is_one_line (history_of s) (place_at pair.revision (pair.old.now ++ x ∷ rest)) (place_at report.ask.revision (pair.new.now ++ x ∷ rest))))
         (entry_some (client_tree s report (p ++ x ∷ rest)) some)
         ∙ ap (λ y. not (counts_ancestry report.ask) || is_one_line (history_of s) (place_at pair.revision y) (place_at report.ask.revision (pair.new.now ++ x ∷ rest))) (sym (append_assoc pair.old.now (x ∷ []) rest))

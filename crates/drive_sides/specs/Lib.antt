@@ -9,3 +9,4 @@ pub mod OnTrees
 pub mod Pairs
 pub mod Plans
 pub mod Together
+pub mod Unlike

@@ -1,12 +1,8 @@
 -- Names of what stands straight beneath a path.
-use Rattle.std.specs.{Prelude.{◌≡◌, ◌⊎◌, ◌||◌, Bool, true, false, List, [], ◌∷◌, ◌++◌, is_some, map}, List.list_any}
-use Rattle.svnpath.specs.Paths.{Component, is_at_or_under, PathValue, same_component}
-use Rattle.repo_api.specs.{Readings.names_among, States.RepoState}
+use Rattle.std.specs.Prelude.{◌≡◌, ◌⊎◌, ◌||◌, true, false, List, [], ◌∷◌, ◌++◌, is_some, map}
+use Rattle.svnpath.specs.Paths.{Component, is_at_or_under, PathValue}
+use Rattle.repo_api.specs.{Readings.{is_name_among, names_among}, States.RepoState}
 use Rattle.drive_reports.specs.{Targets.{WholeReport, client_tree, new_tree, target_entries}, declared.graft.Graft.Graft}
-
--- the name is one of these
-abbrev pub is_name_among : List Component → Component → Bool
-is_name_among names c = list_any (same_component c) names
 
 -- these names were put among others
 abbrev pub ArePut : List Component → List Component → List Component → Type 0

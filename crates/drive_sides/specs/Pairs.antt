@@ -1,5 +1,5 @@
 -- Pairs of entries of which everything is had and asked for.
-use Rattle.std.specs.{List.list_any, Prelude.{◌≡◌, true, false, IfSome, List, ◌++◌}}
+use Rattle.std.specs.{List.list_any, Prelude.{◌≡◌, true, false, IfSome, List, [], ◌∷◌, ◌++◌}}
 use Rattle.svnpath.specs.Paths.{Component, is_at_or_under, PathValue}
 use Rattle.repo_api.specs.{Readings.IsSameAt, States.{RepoState, trees_in}}
 use Rattle.history.specs.Logs.{place_at}
@@ -33,6 +33,28 @@ pub record IsPairAt (c : RepoState) (report : WholeReport) (p : PathValue) (pair
   pub new : (rest : List Component)
       → new_tree c report (p ++ rest) ≡ trees_in c.revisions report.ask.revision (pair.new.now ++ rest)
   pub fresh : (rest : List Component) → due_in c report (p ++ rest) ≡ false
+
+-- no graft is at an entry of a directory or under it
+abbrev pub HasNoGraft : List Graft → PathValue → Component → Type 0
+HasNoGraft grafts p x = list_any (λ (g : Graft). is_at_or_under g.path (p ++ x ∷ [])) grafts ≡ false
+
+-- The drive is of everything, and what is had at a path stays; at each entry of it that has no graft,
+-- and under that, the two trees are what two paths of revisions have there, and nothing is due.
+pub record IsPairBeside (c : RepoState) (report : WholeReport) (p : PathValue) (pair : EntryPair)
+    : Type 0 where
+  pub all : IsOfAll c report
+  pub stays : (aim_at c report p).stays ≡ true
+  pub led : (aim_at c report p).from ≡ pair.new.now
+  pub had : (x : Component) (rest : List Component) → HasNoGraft report.grafts p x
+      → IfSome (client_tree c report (p ++ x ∷ rest)) (IsOfPair pair (x ∷ rest))
+  pub old : (x : Component) (rest : List Component) → HasNoGraft report.grafts p x
+      → old_tree c report (p ++ x ∷ rest)
+      ≡ trees_in c.revisions pair.revision (pair.old.now ++ x ∷ rest)
+  pub new : (x : Component) (rest : List Component) → HasNoGraft report.grafts p x
+      → new_tree c report (p ++ x ∷ rest)
+      ≡ trees_in c.revisions report.ask.revision (pair.new.now ++ x ∷ rest)
+  pub fresh : (x : Component) (rest : List Component) → HasNoGraft report.grafts p x
+      → due_in c report (p ++ x ∷ rest) ≡ false
 
 -- on either side, what is at the places of two pairs and beneath them keeps its lines
 pub record HaveSameLines (c : RepoState) (ask : DriveAsk) (one two : EntryPair) : Type 0 where

@@ -2,6 +2,7 @@
 #![tactic(auto)]
 
 mod alike;
+mod differing;
 mod known;
 mod leading;
 mod lines;

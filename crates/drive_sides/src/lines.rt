@@ -2,14 +2,17 @@
 ghost use Rattle.std.specs.Prelude.{◌≡◌, true, option_copied, IfOk};
 ghost use Rattle.history.specs.Logs.{place_at};
 ghost use Rattle.drive_reports.specs.{Aims.{counts_ancestry, is_of_line, keeps_line, may_change_line}, Targets.client_tree};
-ghost use Rattle.drive_sides.specs.{Known.IsHadAt, Lines.KeepsLines, OnTrees.on_trees};
+ghost use Rattle.drive_sides.specs.{Known.IsHadAt, Lines.{KeepsLines, KeepsLinesBeside}, OnTrees.on_trees};
 
+use crate::pairs::EntryPair;
 use crate::two_trees::TwoTrees;
+use byte_string::ByteString;
 use drive_news::Place;
 use drive_reports::{DriveAsk, Graft, ReportedPlace};
-use history::{are_one_line_beneath, is_one_line};
+use history::{are_one_line_beneath, are_one_line_beside, is_one_line};
 use repo_api::Repository;
 use std::alloc::{AllocError, Global};
+use std::collections::BTreeSet;
 use svnpath::Path;
 
 /// Copies a path of a revision, as a place of the history.
@@ -55,6 +58,27 @@ pub(crate) fn keeps_lines<R: Repository>(
     let older = history_place(one.revision, one.path)?;
     let newer = history_place(two.revision, two.path)?;
     are_one_line_beneath(alloc, view, &older, &newer)
+}
+
+/// Says whether lines of history let everything stay at and beneath the two places of a pair, but for what is beneath them by
+/// these names. A `false` answer is always right.
+pub(crate) fn keeps_lines_beside<R: Repository>(
+    alloc: Global,
+    view: &R,
+    ask: &DriveAsk,
+    names: &BTreeSet<ByteString>,
+    pair: EntryPair<'_>,
+) -> Result<bool, AllocError>
+    ensures { IfOk result (λ all. all ≡ true
+        → KeepsLinesBeside names.now.keys (R.content view.now) ask.now
+        (place_at pair.entry.revision pair.entry.old.now) (place_at ask.now.revision pair.entry.new.now)) }
+{
+    if !counts_ancestry(ask) {
+        return Ok(true);
+    }
+    let older = history_place(pair.revision, pair.old)?;
+    let newer = history_place(ask.revision, pair.new)?;
+    are_one_line_beside(alloc, view, names, &older, &newer)
 }
 
 impl<'a, R: Repository> TwoTrees<'a, R> {

@@ -1,9 +1,10 @@
 //! The names of what a directory has on either side.
-ghost use Rattle.std.specs.Prelude.{◌≡◌, ◌∷◌, [], true, is_some, IfOk, OnOk, option_copied};
+ghost use Rattle.std.specs.{Prelude.{◌≡◌, ◌∷◌, [], true, false, is_some, map, slice_get, IfOk, OnOk, option_copied}, Map.Iter.deref};
 ghost use Rattle.svnpath.specs.Paths.{Component};
-ghost use Rattle.repo_api.specs.{Readings.{name_in, names_at}, States.trees_in};
+ghost use Rattle.repo_api.specs.{Readings.{is_name_among, name_in, names_at, rest_beneath}, States.trees_in};
 ghost use Rattle.drive_reports.specs.Places.{in_place};
-ghost use Rattle.drive_sides.specs.Names.{children_of, graft_names, is_name_among, AreDistinct, ArePut};
+ghost use Rattle.drive_sides.specs.Pairs.{HasNoGraft};
+ghost use Rattle.drive_sides.specs.Names.{children_of, graft_names, AreDistinct, ArePut};
 
 use crate::alike::is_alone;
 use byte_string::ByteString;
@@ -12,6 +13,19 @@ use repo_api::Repository;
 use std::alloc::{AllocError, Global};
 use std::collections::BTreeSet;
 use svnpath::Path;
+
+/// Puts names among others.
+pub(crate) fn put_all(
+    found: &[&ByteString],
+    names: &mut BTreeSet<ByteString>,
+) -> Result<(), AllocError>
+    ensures { OnOk result (ArePut (map deref found.now) names.old.keys names.new.keys) }
+{
+    for name in found {
+        names.insert((*name).clone()?)?;
+    }
+    Ok(())
+}
 
 /// Puts the names of a directory of a revision among others.
 pub(crate) fn put_names<R: Repository>(
@@ -24,10 +38,7 @@ pub(crate) fn put_names<R: Repository>(
         names.old.keys names.new.keys) }
 {
     let found = view.names(revision, path)?;
-    for name in &found {
-        names.insert((*name).clone()?)?;
-    }
-    Ok(())
+    put_all(&found, names)
 }
 
 /// Puts the names of what a client has straight beneath a place among others.
@@ -71,6 +82,34 @@ pub(crate) fn put_graft_names(
 {
     for graft in grafts {
         let Some(name) = name_in(path, &graft.path) else {
+            continue;
+        };
+        names.insert(name.clone()?)?;
+    }
+    Ok(())
+}
+
+/// Gives the name by which a path goes on beneath another, if it is beneath it.
+fn name_beneath<'a>(above: &Path, path: &'a Path) -> Option<&'a ByteString>
+    ensures { option_copied result ≡ slice_get (rest_beneath above.now path.now) 0 }
+{
+    if !path.is_at_or_under(above) {
+        return None;
+    }
+    path.components()[above.len()..].first()
+}
+
+/// Puts the names by which grafts are beneath a path among others.
+pub(crate) fn put_names_beneath(
+    grafts: &[Graft],
+    path: &Path,
+    names: &mut BTreeSet<ByteString>,
+) -> Result<(), AllocError>
+    ensures { OnOk result ((c : Component) → is_name_among names.new.keys c ≡ false
+        → HasNoGraft grafts.now path.now c) }
+{
+    for graft in grafts {
+        let Some(name) = name_beneath(path, &graft.path) else {
             continue;
         };
         names.insert(name.clone()?)?;

@@ -2,7 +2,7 @@
 ghost use Rattle.std.specs.Prelude.{◌≡◌, true, None, IfOk, IfSome};
 ghost use Rattle.repo_api.specs.Readings.{IsSameAt};
 ghost use Rattle.reporter.specs.Knowing.{IsKnown};
-ghost use Rattle.drive_sides.specs.{Depths.IsWhole, Known.IsKnownOf, OnTrees.on_trees, Pairs.{AreOnePair, HaveSameLines, IsPairAt}};
+ghost use Rattle.drive_sides.specs.{Depths.IsWhole, Known.IsKnownOf, OnTrees.on_trees, Pairs.{AreOnePair, HaveSameLines, IsPairAt, IsPairBeside}};
 
 use crate::alike::is_whole;
 use crate::known::DrivePlace;
@@ -123,6 +123,24 @@ pub(crate) fn key_of<R: Repository>(view: &R, revision: u64, pair: EntryPair<'_>
 }
 
 impl<'a, R: Repository> TwoTrees<'a, R> {
+    /// Finds the pair of entries at a path that stays, if everything at and under it, but for what is at and under grafts
+    /// beneath it, is had by one graft and asked for, with no token.
+    pub(crate) fn pair_beside<'p>(&self, place: &'p DrivePlace) -> Option<EntryPair<'p>>
+        requires { IsKnown (on_trees self.now IsKnownOf) place.now }
+        ensures { IfSome result (on_trees self.now IsPairBeside place.now.path) }
+    {
+        if !place.known.stays {
+            return None;
+        }
+        if !self.is_of_all() {
+            return None;
+        }
+        match &place.known.had {
+            None => None,
+            Some(had) => pair_of(had, &place.known.goal),
+        }
+    }
+
     /// Finds the pair of entries at a path that stays, if everything at and under it is had by one graft and asked for, with
     /// no token.
     pub(crate) fn pair_at<'p>(&self, place: &'p DrivePlace) -> Option<EntryPair<'p>>

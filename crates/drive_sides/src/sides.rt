@@ -17,8 +17,9 @@ use svnpath::Path;
 impl<'a, R: Repository> TwoTrees<'a, R> {
     ghost use Rattle.std.specs.Prelude.{◌≡◌, ◌∷◌, ◌++◌, [], false, true, is_some, IfOk, OnOk};
     ghost use Rattle.svnpath.specs.Paths.{Component};
+    ghost use Rattle.repo_api.specs.Readings.{is_name_among};
     ghost use Rattle.drive_reports.specs.{Places.is_grafted_over, Targets.{client_tree, drive_scope, new_tree, old_tree}};
-    ghost use Rattle.drive_sides.specs.{Known.IsKnownOf, Names.{is_name_among, NameNew, NameTarget}, OnTrees.on_trees, Plans.drive_trees};
+    ghost use Rattle.drive_sides.specs.{Known.IsKnownOf, Names.{NameNew, NameTarget}, OnTrees.on_trees, Plans.drive_trees};
     ghost use Rattle.reporter.specs.{Knowing.IsKnown, Walks.IsListed};
     ghost use Rattle.drive_news.specs.Places.{Compares};
 
@@ -78,7 +79,11 @@ impl<'a, R: Repository> TwoTrees<'a, R> {
     }
 
     /// Makes the paths of what a directory has on either side.
-    fn child_paths(&self, alloc: Global, place: &DrivePlace) -> Result<Vec<Path>, AllocError>
+    pub(crate) fn child_paths(
+        &self,
+        alloc: Global,
+        place: &DrivePlace,
+    ) -> Result<Vec<Path>, AllocError>
         requires { IsKnown (on_trees self.now IsKnownOf) place.now }
         ensures { IfOk result (λ v. IsListed (on_trees self.now drive_trees) place.now.path v.items) }
     {
@@ -173,7 +178,7 @@ impl<'a, R: Repository> Sides for TwoTrees<'a, R> {
         alloc: Global,
         place: &DrivePlace,
     ) -> Result<Vec<DrivePlace>, AllocError> {
-        let paths = self.child_paths(alloc, place)?;
+        let paths = self.paths_holding_unlike(alloc, place)?;
         self.unlike_places(alloc, place, paths)
     }
 

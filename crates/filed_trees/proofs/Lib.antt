@@ -18,3 +18,4 @@ pub mod States
 mod InOrder
 mod Said
 mod Sought
+mod Remade

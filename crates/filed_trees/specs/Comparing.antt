@@ -19,11 +19,6 @@ use Rattle.filed_trees.specs.{declared.body.Body.TheVariants.{Empty, New, Kept},
 abbrev pub named_kid : Bor Component × NodeId → Component × NodeId
 named_kid kid = (kid.0.now, kid.1)
 
--- it is among those that were listed
-abbrev pub IsAmong : List (Bor Component × NodeId) → Component × NodeId → Type 0
-IsAmong kids kid =
-    (k : ℕ) × ((x : Bor Component × NodeId) × ((slice_get kids k ≡ Some x) × (named_kid x ≡ kid)))
-
 -- the id at a name
 abbrev pub id_at : List (Component × FileId) → Component → Option FileId
 id_at ids name = lookup (is_at (slice_cmp nat_cmp name)) ids
@@ -100,6 +95,15 @@ HasText files line content =
 abbrev pub AreAt : List Table → Kids → List DirectoryEntry → Type 0
 AreAt tables kids entries =
     (name : Component) → IsAt tables (kid_named kids name) (entry_named name entries)
+
+-- names with nodes are, one after another, the names of entries with the nodes of their ids
+abbrev pub AreNodesOf : List Table → List (Component × NodeId) → List DirectoryEntry → Type 0
+AreNodesOf tables [] [] = Unit {0}
+AreNodesOf tables [] (entry ∷ entries) = ⊥
+AreNodesOf tables (row ∷ rows) [] = ⊥
+AreNodesOf tables (row ∷ rows) (entry ∷ entries) =
+    ((row.0 ≡ entry.name) × IsAt tables (Some row.1) (Some entry.id))
+    × AreNodesOf tables rows entries
 
 -- this holds in all files of each line that gives a body, where the node before is filed
 abbrev pub IfLineGives : Places → Option Earlier → Body

@@ -17,7 +17,9 @@ ghost use Rattle.filed_trees.specs.{Readable.{IsReadableSoFar, IsRightContent, I
 use crate::body::{Body, body_of};
 use crate::changes::{change_at, changes_by_path, read_path};
 use crate::entries::{is_directory, read_kids, same_kids};
-use crate::places::{Earlier, Places, earlier_properties, earlier_text, find_earlier, node_of};
+use crate::places::{
+    Earlier, Places, earlier_id, earlier_properties, earlier_text, find_earlier, node_of,
+};
 use crate::table::{Table, table_of};
 use fsfs_folder::read_properties;
 use fsfs_lines::FileFault;
@@ -243,10 +245,9 @@ impl Reading<'_> {
         let own = self.own(&path, is_changed, earlier)?;
         let properties = self.properties(piece, earlier)?;
         let (content, kids) = self.content(piece, earlier)?;
-        let height = self
-            .places
-            .nodes
-            .height_over(self.alloc, self.revision(), block, &kids)?;
+        let nodes = self.places.nodes;
+        let before = earlier_id(earlier);
+        let height = nodes.height_after(self.alloc, self.revision(), block, before, &kids)?;
         Ok(NodeRev {
             path,
             own,

@@ -1,16 +1,18 @@
 //! The entries of a directory, read from a file.
-ghost use Rattle.std.specs.{Prelude.{◌≡◌, ◌⊎◌, Option, Some, All, Contains, IsSome, IsSomeAnd, IfOk, if◌then◌else◌}, Arc.arc_value, Result.result_ok};
+ghost use Rattle.std.specs.{List.Sorted.IsStrictlySortedBy, Ordering.is_lt};
+ghost use Rattle.shared_map.specs.{Entries.by_bytes, Rows.row_entries};
+ghost use Rattle.std.specs.{Prelude.{◌≡◌, ◌⊎◌, map, Decides, Option, Some, All, Contains, IsSome, IsSomeAnd, IfOk, if◌then◌else◌}, Arc.arc_value, Result.result_ok};
 ghost use Rattle.svnpath.specs.Paths.{Component, same_component};
 ghost use Rattle.repo_api.specs.Trees.{is_directory_content};
 ghost use Rattle.noderevs.specs.{Nodes.kid_named, declared.node_rev.NodeId.NodeId};
 ghost use Rattle.fsfs_ids.specs.declared.representation.Representation.{Representation};
 ghost use Rattle.filed_trees.specs.{Pieces.{RevisionBytes, body_at_line}, Tables.IsAt};
-ghost use Rattle.filed_trees.specs.{Comparing.{AreAt, AreNamed, HasEntries, WasFiled, earlier_text, id_at, tables_of}, declared.places.Places.Places};
+ghost use Rattle.filed_trees.specs.{Comparing.{AreAt, AreNamed, AreNodesOf, HasEntries, WasFiled, earlier_text, id_at, tables_of}, declared.places.Places.Places};
 ghost use Rattle.filed_trees.specs.Readable.{AreEntries, IsOfKind, IsTabled, Judges, ReadsWhere};
 ghost use Rattle.fsfs_nodes.specs.{Entries.entries_of, declared.entries.EntryKind.TheVariants.Directory};
 
 use crate::kids::ids_by_name;
-use crate::places::{Earlier, Places, node_of};
+use crate::places::{Earlier, Places, is_placed, node_of};
 use byte_string::ByteString;
 use fsfs_ids::FileId;
 use fsfs_lines::FileFault;
@@ -157,6 +159,101 @@ fn shared_kids(
     }
 }
 
+/// Finds the node of an entry. That is quick where it is the node that is given.
+///
+/// # Errors
+///
+/// `Dangling` where the files have no such node revision.
+fn node_like(places: Places<'_>, id: FileId, before: Option<NodeId>) -> Result<NodeId, FileFault>
+    ensures { ReadsWhere result (IsTabled (tables_of places.entry) id)
+        (λ node. IsAt (tables_of places.entry) (Some node) (Some id)) }
+{
+    if let Some(before) = before {
+        if is_placed(places, before, id) {
+            return Ok(before);
+        }
+    }
+    let Some(node) = node_of(places, id) else {
+        return Err(FileFault::Dangling);
+    };
+    Ok(node)
+}
+
+/// Finds the first place, from this one on, that has the name or a later one.
+fn place_from(entries: &[&(ByteString, NodeId)], from: usize, name: &ByteString) -> usize {
+    let mut at = from;
+    while at < entries.len() && entries[at].0 < *name {
+        at += 1;
+    }
+    at
+}
+
+/// Gives the node of the entry at a place, if there is one.
+fn node_among(entries: &[&(ByteString, NodeId)], place: usize) -> Option<NodeId> {
+    match entries.get(place) {
+        Some(entry) => Some(entry.1),
+        None => None,
+    }
+}
+
+/// Lists the names of entries with their nodes. That is quick where the names rise, and the nodes are
+/// mostly those of a directory.
+///
+/// # Errors
+///
+/// `Dangling` where the files have no node revision of an id; `NoMemory`.
+fn rows_of<'a>(
+    alloc: Global,
+    places: Places<'_>,
+    kids: &SharedMap<NodeId>,
+    entries: &'a [DirectoryEntry],
+) -> Result<Vec<(&'a ByteString, NodeId)>, FileFault>
+    ensures rows { IfOk result (λ rows. AreNodesOf (tables_of places.entry)
+        (row_entries rows.items) entries.now) }
+    ensures judges { Judges result (All (λ e. IsTabled (tables_of places.entry) e.id) entries.now) }
+{
+    let before = kids.entries(alloc)?;
+    let before = before.as_slice();
+    let mut rows = Vec::with_capacity(alloc, entries.len())?;
+    let mut at = 0;
+    for entry in entries {
+        at = place_from(before, at, &entry.name);
+        let node = node_like(places, entry.id, node_among(before, at))?;
+        rows.push((&entry.name, node))?;
+    }
+    Ok(rows)
+}
+
+/// Makes the entries of a directory those of a list whose names rise, and shares what a directory has
+/// of them.
+///
+/// # Errors
+///
+/// As `rows_of`.
+fn rising_kids(
+    alloc: Global,
+    places: Places<'_>,
+    kids: &SharedMap<NodeId>,
+    entries: &[DirectoryEntry],
+) -> Result<SharedMap<NodeId>, FileFault>
+    requires { IsStrictlySortedBy by_bytes (map (λ e. e.name) entries.now) }
+    ensures { ReadsWhere result (AreEntries (IsTabled (tables_of places.entry)) entries.now)
+        (λ made. AreAt (tables_of places.entry) made entries.now) }
+{
+    let rows = rows_of(alloc, places, kids, entries)?;
+    Ok(kids.remade(alloc, rows.as_slice())?)
+}
+
+/// Says whether each name comes after the one before.
+fn are_rising(entries: &[DirectoryEntry]) -> bool
+    ensures { Decides result (IsStrictlySortedBy by_bytes (map (λ e. e.name) entries.now)) }
+{
+    let is_before = |entry: &DirectoryEntry, next: &DirectoryEntry| -> bool
+        ensures { result ≡ is_lt (by_bytes entry.now.name next.now.name) }
+    { entry.name < next.name };
+    entries.is_sorted_by(is_before)
+}
+
 /// Reads the entries that bytes say. They share what the predecessor has.
 ///
 /// # Errors
@@ -176,6 +273,9 @@ pub(crate) fn read_kids(
 {
     let entries = read_entries(alloc, bytes)?;
     let mut kids = shared_kids(alloc, earlier)?;
+    if are_rising(entries.as_slice()) {
+        return rising_kids(alloc, places, &kids, entries.as_slice());
+    }
     match set_kids(alloc, places, &mut kids, entries.as_slice()) {
         Ok(()) => Ok(kids),
         Err(fault) => {

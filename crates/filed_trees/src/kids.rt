@@ -1,8 +1,8 @@
 //! The entries of nodes, and the ids that a file says of entries.
 ghost use Rattle.std.specs.Prelude.{◌≡◌, true, All, IfOk, None, Some, Decides};
 ghost use Rattle.svnpath.specs.Paths.{Component};
-ghost use Rattle.noderevs.specs.{Nodes.kid_of, declared.node_rev.NodeId.NodeId};
-ghost use Rattle.filed_trees.specs.{Pieces.entry_named, Comparing.{IsAmong, id_at}, Readable.{AreOnce, ReadsWhere}};
+ghost use Rattle.noderevs.specs.Nodes.{kid_of};
+ghost use Rattle.filed_trees.specs.{Pieces.entry_named, Comparing.id_at, Readable.{AreOnce, ReadsWhere}};
 
 use byte_string::ByteString;
 use fsfs_ids::FileId;
@@ -11,20 +11,6 @@ use fsfs_nodes::DirectoryEntry;
 use noderevs::{NodeId, NodeRev};
 use std::alloc::{AllocError, Global};
 use std::collections::BTreeMap;
-
-/// Lists the names of a node's entries with their ids.
-fn kids_of(alloc: Global, node: &NodeRev) -> Result<Vec<(&ByteString, NodeId)>, AllocError>
-    ensures into { IfOk result (λ kids. (name : Component) (id : NodeId)
-        → kid_of name node.now ≡ Some id → IsAmong kids.items (name, id)) }
-    ensures from { IfOk result (λ kids. All (λ k. kid_of k.0.now node.now ≡ Some k.1) kids.items) }
-{
-    let mut kids = Vec::new(alloc);
-    let entries = node.kids.entries(alloc)?;
-    for &entry in entries.as_slice() {
-        kids.push((&entry.0, entry.1))?;
-    }
-    Ok(kids)
-}
 
 /// Finds the id of an entry of a node.
 fn kid(node: &NodeRev, name: &ByteString) -> Option<NodeId>
@@ -44,11 +30,11 @@ fn is_kid_of(node: &NodeRev, name: &ByteString, id: NodeId) -> bool
 }
 
 /// Says whether entries are those of another node, too.
-fn are_kids_of(node: &NodeRev, kids: &[(&ByteString, NodeId)]) -> bool
-    ensures { Decides result (All (λ k. kid_of k.0.now node.now ≡ Some k.1) kids.now) }
+fn are_kids_of(node: &NodeRev, kids: &[&(ByteString, NodeId)]) -> bool
+    ensures { Decides result (All (λ k. kid_of k.now.0 node.now ≡ Some k.now.1) kids.now) }
 {
     for k in 0..kids.len() {
-        if !is_kid_of(node, kids[k].0, kids[k].1) {
+        if !is_kid_of(node, &kids[k].0, kids[k].1) {
             return false;
         }
     }
@@ -64,8 +50,8 @@ pub(crate) fn are_same_kids(
     ensures { IfOk result (λ same. Decides same ((name : Component)
         → kid_of name node.now ≡ kid_of name other.now)) }
 {
-    let kids = kids_of(alloc, node)?;
-    let others = kids_of(alloc, other)?;
+    let kids = node.kids.unlike(alloc, &other.kids)?;
+    let others = other.kids.unlike(alloc, &node.kids)?;
     Ok(are_kids_of(other, kids.as_slice()) && are_kids_of(node, others.as_slice()))
 }
 

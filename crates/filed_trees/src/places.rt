@@ -1,6 +1,6 @@
 //! Where nodes stand in the files, as far as that is known.
 ghost use Rattle.std.specs.Prelude.{◌≡◌, ◌≤◌, IfOk, IfSome, IsSomeAnd, length, option_copied, slice_get, Some, Decides};
-ghost use Rattle.filed_trees.specs.{Comparing.{IsEarlier, earlier_text, earlier_properties, tables_of, AreFor}, Tables.IsAt};
+ghost use Rattle.filed_trees.specs.{Comparing.{IsEarlier, earlier_text, earlier_properties, tables_of, AreFor}, Tables.{IsAt, placed_in}};
 ghost use Rattle.filed_trees.specs.{Readable.{Finds, FindsOne, IsTabled, Judges}, Pieces.RevisionBytes, Changes.ChangeRows};
 
 use crate::placed::Placed;
@@ -22,6 +22,7 @@ pub(crate) struct Places<'a> {
 /// Holds a node of an earlier revision, and where it stands in the files.
 #[derive(Clone, Copy)]
 pub(crate) struct Earlier<'a> {
+    pub id: NodeId,
     pub node: &'a NodeRev,
     pub placed: &'a Placed,
 }
@@ -96,6 +97,27 @@ pub(crate) fn node_of(places: Places<'_>, id: FileId) -> Option<NodeId>
     })
 }
 
+/// Finds where a node stands in the files.
+fn placed_at(places: Places<'_>, node: NodeId) -> Option<&Placed>
+    ensures { option_copied result ≡ placed_in (tables_of places.entry) node }
+{
+    match table_at(places, node.rev) {
+        Some(table) => table.placed.get(node.place as usize),
+        None => None,
+    }
+}
+
+/// Says whether a node, of the revision of an id, is the node revision of this id.
+pub(crate) fn is_placed(places: Places<'_>, node: NodeId, id: FileId) -> bool
+    ensures { Decides result ((node.rev ≡ id.revision)
+        × IsAt (tables_of places.entry) (Some node) (Some id)) }
+{
+    match placed_at(places, node) {
+        Some(placed) => node.rev == id.revision && is_same_id(placed.id(), id),
+        None => false,
+    }
+}
+
 /// Finds the node of an earlier revision that a node revision names as its predecessor.
 ///
 /// # Errors
@@ -126,12 +148,22 @@ fn earlier_of(places: Places<'_>, id: FileId) -> Option<Earlier<'_>>
 {
     let table = places.tables.get(id.revision as usize)?;
     let place = place_of(table.placed.as_slice(), id)?;
-    let node = places.nodes.node(NodeId {
+    let node_id = NodeId {
         rev: id.revision,
         place: place as u64,
-    })?;
+    };
+    let node = places.nodes.node(node_id)?;
     let placed = table.placed.get(place)?;
-    Some(Earlier { node, placed })
+    Some(Earlier {
+        id: node_id,
+        node,
+        placed,
+    })
+}
+
+/// Gives the id of the node of the predecessor.
+pub(crate) fn earlier_id(earlier: Option<Earlier<'_>>) -> Option<NodeId> {
+    Some(earlier?.id)
 }
 
 /// Gives the line of the text of the predecessor.

@@ -67,6 +67,17 @@ impl Repository for FiledWorld {
         self.world.is_same(revision, path, other, other_path)
     }
 
+    fn differing_names(
+        &self,
+        revision: u64,
+        path: &Path,
+        other: u64,
+        other_path: &Path,
+    ) -> Result<Option<Vec<&ByteString>>, AllocError> {
+        self.world
+            .differing_names(revision, path, other, other_path)
+    }
+
     fn changes(&self, revision: u64) -> &[(Path, Change)] {
         self.world.changes(revision)
     }

@@ -1,9 +1,9 @@
 -- What is held, seen by paths and ids.
-use Rattle.std.proofs.Common.{◌≡◌, ◌≤◌, ◌<◌, ℕ, zero, suc, List, [], ◌∷◌, ◌++◌, length, arith, Option, Some, None, is_some, option_map, option_and_then, refl}
-use Rattle.std.proofs.{Common.{sym, ap, subst, ◌∙◌}, lemmas.Bool.false≢true, lemmas.Option.slice_get_past}
-use Rattle.std.specs.{FinMap.entries, Prelude.{IsSome, slice_get}}
-use Rattle.svnpath.specs.Paths.{PathValue}
-use Rattle.repo_api.specs.{Histories.changes_in, Readings.IsSameAt, States.{ChangeMap, trees_in}}
+use Rattle.std.proofs.Common.{◌≡◌, ◌≤◌, ◌<◌, ℕ, zero, suc, true, List, [], ◌∷◌, ◌++◌, length, arith, Option, Some, None, is_some, option_map, option_and_then, refl}
+use Rattle.std.proofs.{Common.{sym, ap, subst, ◌∙◌}, lemmas.Bool.{false≢true, or_left, or_right}, lemmas.Option.slice_get_past}
+use Rattle.std.specs.{FinMap.entries, List.{Contains, slice_index_or}, Prelude.{IfSome, IsSome, slice_get}}
+use Rattle.svnpath.specs.{PathLaws.same_component_refl, Paths.{Component, PathValue, same_component}}
+use Rattle.repo_api.specs.{Histories.changes_in, Readings.{IsSameAt, is_name_among}, States.{ChangeMap, trees_in}}
 use Rattle.noderevs.specs.{Held.{blocks_of, node_at, root_at, trees_of}, Nodes.{kid_at, Look}, Views.{entry_at, find_id, shared_tree}}
 use Rattle.noderevs.specs.{declared.node_rev.Block.Block, declared.node_rev.NodeId.NodeId}
 use Rattle.held.specs.{Shown.the_shown, Contents.{revisions_of, held_state, tree_held}, declared.held.Held.Held}
@@ -51,6 +51,30 @@ same_held h n m p q one rest =
     held_seen h n (p ++ rest) ∙ shared_on (node_at h.nodes) p rest (root_at h.nodes n)
     ∙ ap (λ o. shared_tree (node_at h.nodes) o rest) one
     ∙ sym (shared_on (node_at h.nodes) q rest (root_at h.nodes m)) ∙ sym (held_seen h m (q ++ rest))
+
+-- where two directories have one node by a name, all is the same there and beneath
+pub same_entry : (h : Held) (n m : ℕ) (p q : PathValue) (name : Component)
+    → kid_at (node_at h.nodes) (find_id (node_at h.nodes) p (root_at h.nodes n)) name
+    ≡ kid_at (node_at h.nodes) (find_id (node_at h.nodes) q (root_at h.nodes m)) name
+    → IsSameAt (held_state h) n (p ++ name ∷ []) m (q ++ name ∷ [])
+same_entry h n m p q name one =
+    same_held h n m (p ++ name ∷ []) (q ++ name ∷ [])
+    (find_on (node_at h.nodes) p (name ∷ []) (root_at h.nodes n) ∙ one
+    ∙ sym (find_on (node_at h.nodes) q (name ∷ []) (root_at h.nodes m)))
+
+-- a name that a list has is among its names
+name_at : (names : List Component) (name : Component) (k : ℕ) → k < length names → slice_index_or names k name ≡ name → is_name_among names name ≡ true
+name_at [] name k within is = absurd (omega (within, arith))
+name_at (x ∷ names) name zero within is = or_left (same_component name x) (is_name_among names name) (ap (same_component name) is ∙ same_component_refl name)
+name_at (x ∷ names) name (suc k) within is = or_right (same_component name x) (is_name_among names name) (name_at names name k (omega (within, arith)) is)
+
+pub among_these : (names : List Component) (name : Component) → Contains names name → is_name_among names name ≡ true
+among_these names name there = name_at names name there.0 there.1 there.2
+
+-- what is so of something that there may be follows from what is
+pub some_weaker : {X : Type 0} (o : Option X) (P Q : X → Type 0) → ((x : X) → P x → Q x) → IfSome o P → IfSome o Q
+some_weaker None P Q f h = tt
+some_weaker (Some x) P Q f h = f x h
 
 -- the changes that are listed of a revision
 pub held_changes : (h : Held) (n : ℕ) (c : ChangeMap) → slice_get h.changes n ≡ Some c

@@ -1,6 +1,6 @@
 //! What is found in what is held. It takes no memory but for a list of names.
-ghost use Rattle.std.specs.{Prelude.{◌≡◌, ◌<◌, true, length, map, IfOk, option_copied, slice_get}, Map.Iter.deref};
-ghost use Rattle.repo_api.specs.{Histories.changes_in, Kinds.{created_of, has_deeper_at, kind_of, node_properties}, Readings.{IsSameAt, names_in}};
+ghost use Rattle.std.specs.{Prelude.{◌≡◌, ◌<◌, true, length, map, IfOk, IfSome, option_copied, slice_get}, Map.Iter.deref};
+ghost use Rattle.repo_api.specs.{Histories.changes_in, Kinds.{created_of, has_deeper_at, kind_of, node_properties}, Readings.{DifferAtMostBy, IsSameAt, names_in}};
 ghost use Rattle.repo_api.specs.{States.{tree_in, youngest}, Trees.text_of};
 ghost use Rattle.history_marks.specs.Sound.{IsSoundRepo};
 ghost use Rattle.noderevs.specs.{Held.{node_at, root_at}, Views.find_id};
@@ -92,6 +92,24 @@ impl Held {
             → IsSameAt (held_state self.now) revision path.now other other_path.now }
     {
         is_one(self.find(revision, path), self.find(other, other_path))
+    }
+
+    /// Gives names among which are all by which a directory of a revision and another of another revision differ, `None`
+    /// where nothing exists at one of the paths.
+    pub fn differing_names(
+        &self,
+        alloc: Global,
+        revision: u64,
+        path: &Path,
+        other: u64,
+        other_path: &Path,
+    ) -> Result<Option<Vec<&ByteString>>, AllocError>
+        ensures { IfOk result (λ found. IfSome found (λ names. DifferAtMostBy (held_state self.now)
+            revision path.now other other_path.now (map deref names.items))) }
+    {
+        let one = self.find(revision, path);
+        let beside = self.find(other, other_path);
+        self.nodes.differing_names(alloc, one, beside)
     }
 
     /// Gives the names of what is straight beneath a path of a revision, by their bytes.

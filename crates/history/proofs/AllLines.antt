@@ -1,12 +1,12 @@
 -- Lines of what is beneath a place: where nothing beneath was made, they go back as its own does.
-use Rattle.std.proofs.Common.{◌≡◌, ◌≤◌, ◌<◌, ◌⊎◌, inl, inr, ℕ, Bool, true, false, ◌&&◌, not, List, [], ◌∷◌, ◌++◌, length, drop, reverse, Option, Some, None, refl, sym, ap, ◌∙◌, subst}
+use Rattle.std.proofs.Common.{◌≡◌, ◌≤◌, ◌<◌, ◌⊎◌, inl, inr, ℕ, Bool, true, false, ◌&&◌, ◌||◌, not, arith, get_or, List, [], ◌∷◌, ◌++◌, length, drop, reverse, Option, Some, None, refl, sym, ap, ◌∙◌, subst}
 use Rattle.std.proofs.{lemmas.Bool.{false≢true, and_from, and_parts}, lemmas.List.append_assoc, lemmas.List.Elements.{All-head, All-tail}}
-use Rattle.std.specs.{List.{All, find, list_any}, Prelude.{◌==◌, ◌-◌, if◌then◌else◌}}
-use Rattle.svnpath.specs.{PathLaws.{rest_append, same_component_is, same_component_refl, under_append, under_is}, Paths.{is_at_or_under, PathValue, same_component}}
-use Rattle.repo_api.specs.Histories.{Changed, History, IsQuietSince}
+use Rattle.std.specs.{List.{All, find, list_any}, Prelude.{◌==◌, ◌-◌, if◌then◌else◌}, Ordering.nat_cmp, BTreeMap.is_at, Cmp.Lexicographic.{slice_cmp, texts_ties}}
+use Rattle.svnpath.specs.{PathLaws.{rest_append, same_component_is, same_component_refl, under_append, under_is}, Paths.{Component, is_at_or_under, PathValue, same_component}}
+use Rattle.repo_api.specs.{Histories.{Changed, History, IsQuietSince}, Readings.is_name_among}
 use Rattle.traces.specs.{Traces.{decides, earlier, makes, place_before, place_by, source_place, trace_below}, declared.place.Place.Place}
 use Rattle.traces.specs.declared.place.Place.{Place}
-use Rattle.history.specs.{Logs.place_at, Lines.{AreOneLineBeneath, AreTheseTwo, is_one_line, line_start, makes_beneath, place_beneath, same_place}}
+use Rattle.history.specs.{Logs.place_at, Lines.{AreOneLineBeneath, AreOneLineBeside, AreTheseTwo, is_beside, is_one_line, line_start, makes_beside, place_beneath, same_place}}
 use Rattle.history.proofs.{Ends.{is_same, line_goes_on, line_since, same_place_is}, Passing.{each_fails, reversed}, Steps.{trace_is, trace_passes}}
 
 -- ---- paths
@@ -35,11 +35,36 @@ left_more p x rest up =
 
 -- ---- one revision
 
--- what makes nothing beneath a path decides of what is beneath as of the path
-decides_beneath : (p rest : PathValue) (e : Changed) → makes_beneath p e ≡ false → decides (p ++ rest) e ≡ decides p e
-decides_beneath p rest e none = by (makes e.1.action) (is_at_or_under p e.0) (is_at_or_under (p ++ rest) e.0) refl refl none
+-- what is at or under a path beneath another is beneath it as that is
+front_under : (p rest d : PathValue) → is_at_or_under (p ++ rest) (p ++ d) ≡ true → is_at_or_under rest d ≡ true
+front_under [] rest d up = up
+front_under (c ∷ p) rest d up = front_under p rest d (and_parts (same_component c c) (is_at_or_under (p ++ rest) (p ++ d)) up).1
+
+-- a path that begins with a name
+pub beside_first : (names : List Component) (path : PathValue) (name : Component) → 1 ≤ length path → name ≡ get_or path 0 name → is_beside names path ≡ not (is_name_among names name)
+beside_first names [] name long is = absurd (omega (long, arith))
+beside_first names (first ∷ rest) name long is = ap (λ x. not (is_name_among names x)) (sym is)
+
+-- a name that is found in a set of names is among them
+pub contained_among : (names : List Component) (name : Component) → list_any (is_at (slice_cmp nat_cmp name)) names ≡ is_name_among names name
+contained_among [] name = refl
+contained_among (n ∷ names) name =
+    ap (λ b. b || list_any (is_at (slice_cmp nat_cmp name)) names) (sym (texts_ties name n))
+    ∙ ap (λ b. same_component name n || b) (contained_among names name)
+
+-- of a path beside the names, what is at or above it is beside them too, but for the empty path
+beside_above : (names : List Component) (rest d : PathValue) → is_at_or_under rest d ≡ true → is_beside names rest ≡ true → is_beside names d ≡ true
+beside_above names rest [] up beside = refl
+beside_above names [] (n ∷ d) up beside = absurd (false≢true up)
+beside_above names (m ∷ rest) (n ∷ d) up beside =
+    ap (λ x. not (is_name_among names x)) (same_component_is n m (and_parts (same_component n m) (is_at_or_under rest d) up).0) ∙ beside
+
+-- what makes nothing beneath a path by other names decides of what is beneath by such a name as of the path
+decides_beside : (names : List Component) (p rest : PathValue) (e : Changed) → is_beside names rest ≡ true → makes_beside names p e ≡ false → decides (p ++ rest) e ≡ decides p e
+decides_beside names p rest e beside none = by (makes e.1.action) (is_at_or_under p e.0) (is_at_or_under (p ++ rest) e.0) refl refl none
   where
-    by : (m a b : Bool) → is_at_or_under p e.0 ≡ a → is_at_or_under (p ++ rest) e.0 ≡ b → (m && is_at_or_under e.0 p && not a) ≡ false → (m && b) ≡ (m && a)
+    by : (m a b : Bool) → is_at_or_under p e.0 ≡ a → is_at_or_under (p ++ rest) e.0 ≡ b
+        → (m && is_at_or_under e.0 p && not a && is_beside names (drop (length p) e.0)) ≡ false → (m && b) ≡ (m && a)
     by false a b one more h = refl
     by true true true one more h = refl
     by true false false one more h = refl
@@ -48,12 +73,15 @@ decides_beneath p rest e none = by (makes e.1.action) (is_at_or_under p e.0) (is
       where
         among : (is_at_or_under p e.0 ≡ true) ⊎ (is_at_or_under e.0 p ≡ true) → true ≡ false
         among (inl above) = absurd (false≢true (sym one ∙ above))
-        among (inr beneath) = absurd (false≢true (sym h ∙ ap (λ u. u && true) beneath))
+        among (inr beneath) =
+            let other : is_beside names (drop (length p) e.0) ≡ true =
+            beside_above names rest (drop (length p) e.0) (front_under p rest (drop (length p) e.0) (subst (λ x. is_at_or_under (p ++ rest) x ≡ true) (under_is e.0 p beneath) more)) beside in
+            absurd (false≢true (sym h ∙ ap (λ u. u && true && is_beside names (drop (length p) e.0)) beneath ∙ other))
 
 -- so what decides of the path leads what is beneath it along
-led_beneath : (changes : List Changed) (at next : Place) (rest : PathValue) → All (λ e. makes_beneath at.path e ≡ false) changes
+led_beneath : (names : List Component) (changes : List Changed) (at next : Place) (rest : PathValue) → is_beside names rest ≡ true → All (λ e. makes_beside names at.path e ≡ false) changes
     → place_by (find (decides at.path) changes) at ≡ Some next → place_by (find (decides (at.path ++ rest)) changes) (place_beneath at rest) ≡ Some (place_beneath next rest)
-led_beneath [] at next rest none is = by (at.revision == 0) is
+led_beneath names [] at next rest beside none is = by (at.revision == 0) is
   where
     by : (b : Bool) → (if b then None else Some (record { path = at.path; revision = at.revision - 1 })) ≡ Some next
         → (if b then None else Some (record { path = at.path ++ rest; revision = at.revision - 1 })) ≡ Some (place_beneath next rest)
@@ -61,14 +89,14 @@ led_beneath [] at next rest none is = by (at.revision == 0) is
     by false h =
         let same : record { path = at.path; revision = at.revision - 1 } ≡ next = cc h in
         ap (λ (x : Place). Some (place_beneath x rest)) same
-led_beneath (e ∷ changes) at next rest none is =
-    by (led_beneath changes at next rest (All-tail (λ x. makes_beneath at.path x ≡ false) e changes none)) (decides at.path e) refl
+led_beneath names (e ∷ changes) at next rest beside none is =
+    by (led_beneath names changes at next rest beside (All-tail (λ x. makes_beside names at.path x ≡ false) e changes none)) (decides at.path e) refl
   where
     decided : Bool → PathValue → Option Changed
     decided b p = if b then Some e else find (decides p) changes
 
     same : decides (at.path ++ rest) e ≡ decides at.path e
-    same = decides_beneath at.path rest e (All-head (λ x. makes_beneath at.path x ≡ false) e changes none)
+    same = decides_beside names at.path rest e beside (All-head (λ x. makes_beside names at.path x ≡ false) e changes none)
 
     sources : decides at.path e ≡ true → place_by (Some e) at ≡ Some next → place_by (Some e) (place_beneath at rest) ≡ Some (place_beneath next rest)
     sources d = from e.1.source
@@ -93,19 +121,19 @@ led_beneath (e ∷ changes) at next rest none is =
         ap (λ b. place_by (decided b (at.path ++ rest)) (place_beneath at rest)) (same ∙ d)
         ∙ later (sym (ap (λ b. place_by (decided b at.path) at) d) ∙ is)
 
-before_beneath : (changes : List Changed) (at next : Place) (rest : PathValue) → list_any (makes_beneath at.path) changes ≡ false
+before_beneath : (names : List Component) (changes : List Changed) (at next : Place) (rest : PathValue) → is_beside names rest ≡ true → list_any (makes_beside names at.path) changes ≡ false
     → place_before changes at ≡ Some next → place_before changes (place_beneath at rest) ≡ Some (place_beneath next rest)
-before_beneath changes at next rest none is =
-    led_beneath (reverse changes) at next rest (reversed (λ e. makes_beneath at.path e ≡ false) changes (each_fails (makes_beneath at.path) changes none)) is
+before_beneath names changes at next rest beside none is =
+    led_beneath names (reverse changes) at next rest beside (reversed (λ e. makes_beside names at.path e ≡ false) changes (each_fails (makes_beside names at.path) changes none)) is
 
 -- ---- lines
 
-pub lines_step : (h : History) (at next : Place) → list_any (makes_beneath at.path) (h at.revision) ≡ false → place_before (h at.revision) at ≡ Some next
-    → next.revision < at.revision → AreOneLineBeneath h at next
-lines_step h at next none is lower rest =
+pub lines_step : (names : List Component) (h : History) (at next : Place) → list_any (makes_beside names at.path) (h at.revision) ≡ false → place_before (h at.revision) at ≡ Some next
+    → next.revision < at.revision → AreOneLineBeside names h at next
+lines_step names h at next none is lower rest beside =
     line_goes_on h (place_beneath at rest) (place_beneath next rest)
     (trace_is h false (place_beneath at rest)
-    ∙ ap (λ o. place_beneath at rest ∷ trace_below h false at.revision o) (before_beneath (h at.revision) at next rest none is)
+    ∙ ap (λ o. place_beneath at rest ∷ trace_below h false at.revision o) (before_beneath names (h at.revision) at next rest beside none is)
     ∙ ap (λ ps. place_beneath at rest ∷ ps) (trace_passes h false at.revision (place_beneath next rest) lower))
 
 -- of a place that is settled
@@ -124,33 +152,46 @@ lines_settled h at k within quiet rest = line_since h (at.path ++ rest) k at.rev
     either x (inl up) above beneath = above up
     either x (inr low) above beneath = beneath low
 
-pub lines_refl : (h : History) (a : Place) → AreOneLineBeneath h a a
-lines_refl h a rest = refl
+-- all beneath two places is beside whatever names
+pub lines_beside : (names : List Component) (h : History) (a b : Place) → AreOneLineBeneath h a b → AreOneLineBeside names h a b
+lines_beside names h a b one rest beside = one rest
 
-pub lines_turned : (h : History) (a b : Place) → AreOneLineBeneath h a b → AreOneLineBeneath h b a
-lines_turned h a b one rest = sym (one rest)
+-- and beside no names is all
+pub lines_all : (h : History) (a b : Place) → AreOneLineBeside [] h a b → AreOneLineBeneath h a b
+lines_all h a b one [] = one [] refl
+lines_all h a b one (name ∷ rest) = one (name ∷ rest) refl
 
-pub lines_joined : (h : History) (a b c : Place) → AreOneLineBeneath h a b → AreOneLineBeneath h b c → AreOneLineBeneath h a c
-lines_joined h a b c one other rest = one rest ∙ other rest
+module _ (names : List Component) (h : History) where
+  pub lines_refl : (a : Place) → AreOneLineBeside names h a a
+  lines_refl a rest beside = refl
 
--- the same of two places in either order
-pub lines_of_two : (h : History) (a b c d : Place) → AreTheseTwo a b c d → AreOneLineBeneath h a b → AreOneLineBeneath h c d
-lines_of_two h a b c d (inl same) one = subst (λ x. AreOneLineBeneath h x d) same.0 (subst (AreOneLineBeneath h a) same.1 one)
-lines_of_two h a b c d (inr other) one = lines_turned h d c (subst (λ x. AreOneLineBeneath h x c) other.0 (subst (AreOneLineBeneath h a) other.1 one))
+  pub lines_turned : (a b : Place) → AreOneLineBeside names h a b → AreOneLineBeside names h b a
+  lines_turned a b one rest beside = sym (one rest beside)
+
+  pub lines_joined : (a b c : Place) → AreOneLineBeside names h a b → AreOneLineBeside names h b c → AreOneLineBeside names h a c
+  lines_joined a b c one other rest beside = one rest beside ∙ other rest beside
+
+  -- the same of two places in either order
+  pub lines_of_two : (a b c d : Place) → AreTheseTwo a b c d → AreOneLineBeside names h a b → AreOneLineBeside names h c d
+  lines_of_two a b c d (inl same) one = subst (λ x. AreOneLineBeside names h x d) same.0 (subst (AreOneLineBeside names h a) same.1 one)
+  lines_of_two a b c d (inr other) one = lines_turned d c (subst (λ x. AreOneLineBeside names h x c) other.0 (subst (AreOneLineBeside names h a) other.1 one))
 
 -- places whose lines begin at one place
 pub one_line_met : (h : History) (a b : Place) → line_start h a ≡ line_start h b → is_one_line h a b ≡ true
 one_line_met h a b one = is_same (line_start h a) (line_start h b) one
 
--- two places that are one
-pub lines_met : (h : History) (a b : Place) → same_place a b ≡ true → AreOneLineBeneath h a b
-lines_met h a b same = subst (AreOneLineBeneath h a) (same_place_is a b same) (lines_refl h a)
+module _ (names : List Component) (h : History) where
+  -- two places that are one
+  pub lines_met : (a b : Place) → same_place a b ≡ true → AreOneLineBeside names h a b
+  lines_met a b same = subst (AreOneLineBeside names h a) (same_place_is a b same) (lines_refl names h a)
 
--- the later of two places is walked back
-pub lines_go_on : (h : History) (earlier later a b next : Place) → AreTheseTwo earlier later a b → AreOneLineBeneath h later next → AreOneLineBeneath h earlier next → AreOneLineBeneath h a b
-lines_go_on h earlier later a b next two back one =
-    lines_of_two h earlier later a b two (lines_joined h earlier next later one (lines_turned h later next back))
+  -- the later of two places is walked back
+  pub lines_go_on : (earlier later a b next : Place) → AreTheseTwo earlier later a b → AreOneLineBeside names h later next → AreOneLineBeside names h earlier next
+      → AreOneLineBeside names h a b
+  lines_go_on earlier later a b next two back one =
+      lines_of_two names h earlier later a b two (lines_joined names h earlier next later one (lines_turned names h later next back))
 
--- and from where two have settled to where they were
-pub lines_from : (h : History) (a b c d : Place) → AreOneLineBeneath h a c → AreOneLineBeneath h b d → AreOneLineBeneath h c d → AreOneLineBeneath h a b
-lines_from h a b c d first second one = lines_joined h a d b (lines_joined h a c d first one) (lines_turned h b d second)
+  -- and from where two have settled to where they were
+  pub lines_from : (a b c d : Place) → AreOneLineBeneath h a c → AreOneLineBeneath h b d → AreOneLineBeside names h c d → AreOneLineBeside names h a b
+  lines_from a b c d first second one =
+      lines_joined names h a d b (lines_joined names h a c d (lines_beside names h a c first) one) (lines_turned names h b d (lines_beside names h b d second))

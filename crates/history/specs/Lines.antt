@@ -1,7 +1,7 @@
 -- Lines of history: what was added once, followed through changes and copies.
-use Rattle.std.specs.Prelude.{◌≡◌, ◌==◌, ◌⊎◌, Bool, false, not, ◌&&◌, List, [], ◌∷◌, ◌++◌}
-use Rattle.svnpath.specs.Paths.{is_at_or_under, PathValue, same_path}
-use Rattle.repo_api.specs.Histories.{Changed, History}
+use Rattle.std.specs.Prelude.{◌≡◌, ◌==◌, ◌⊎◌, Bool, true, false, not, ◌&&◌, List, [], ◌∷◌, ◌++◌, length, drop}
+use Rattle.svnpath.specs.Paths.{Component, is_at_or_under, PathValue, same_path}
+use Rattle.repo_api.specs.{Histories.{Changed, History}, Readings.is_name_among}
 use Rattle.traces.specs.{Traces.{makes, trace}, declared.place.Place.Place}
 
 -- two places are one
@@ -36,7 +36,20 @@ abbrev pub AreOneLineBeneath : History → Place → Place → Type 0
 AreOneLineBeneath h a b =
     (rest : PathValue) → line_start h (place_beneath a rest) ≡ line_start h (place_beneath b rest)
 
--- the change added or replaced what is beneath the path, and not what is at it or above it
-abbrev pub makes_beneath : PathValue → Changed → Bool
-makes_beneath p e =
+-- the path does not begin with one of these names
+abbrev pub is_beside : List Component → PathValue → Bool
+is_beside names [] = true
+is_beside names (name ∷ rest) = not (is_name_among names name)
+
+-- the same of two places, but for what is beneath them by these names
+abbrev pub AreOneLineBeside : List Component → History → Place → Place → Type 0
+AreOneLineBeside names h a b =
+    (rest : PathValue) → is_beside names rest ≡ true
+    → line_start h (place_beneath a rest) ≡ line_start h (place_beneath b rest)
+
+-- the change added or replaced what is beneath the path, by none of these names, and not what is at
+-- it or above it
+abbrev pub makes_beside : List Component → PathValue → Changed → Bool
+makes_beside names p e =
     makes e.1.action && is_at_or_under e.0 p && not (is_at_or_under p e.0)
+    && is_beside names (drop (length p) e.0)

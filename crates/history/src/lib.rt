@@ -16,7 +16,7 @@ mod meeting;
 mod walk;
 mod walks;
 
-pub use beneath::are_one_line_beneath;
+pub use beneath::{are_one_line_beneath, are_one_line_beside};
 pub use dates::dated_rev;
 pub use kinds::kind_shown;
 pub use laws::{

@@ -8,3 +8,4 @@ pub mod Searching
 pub mod Listed
 pub mod Lists
 pub mod Ordered
+pub mod News

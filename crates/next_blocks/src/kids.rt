@@ -1,8 +1,8 @@
 //! The entries of the directories of a block.
-ghost use Rattle.std.specs.{Prelude.{◌≡◌, true, IfOk, Some, None, Decides}, FinMap.entries, List.Sorted.IsStrictlySortedBy, Map.keys_of};
-ghost use Rattle.svnpath.specs.Paths.{Component, path_cmp};
-ghost use Rattle.noderevs.specs.{Nodes.kid_of, declared.node_rev.NodeId.NodeId};
-ghost use Rattle.next_blocks.specs.Rules.{IsNewKid, IsOldKid, IsRightKid, past_of};
+ghost use Rattle.std.specs.{Prelude.{◌≡◌, map, true, IfOk, Some, None, Decides}, FinMap.entries, List.Sorted.IsStrictlySortedBy, Map.{keys_of, Iter.deref}};
+ghost use Rattle.svnpath.specs.{Components.IsComponent, Paths.{Component, path_cmp}};
+ghost use Rattle.noderevs.specs.{Heights.AreNews, Held.node_at, Nodes.{kid_at, kid_of}, declared.node_rev.NodeId.NodeId};
+ghost use Rattle.next_blocks.specs.Rules.{IsNewKid, IsOldKid, IsRightKid, id_before, past_of};
 
 use crate::changes::is_made;
 use crate::next_block::NextBlock;
@@ -23,6 +23,27 @@ pub(crate) fn is_id(found: Option<NodeId>, id: NodeId) -> bool
     ensures { Decides result (found ≡ Some id) }
 {
     found == Some(id)
+}
+
+/// Says whether a name is a component.
+fn is_right_name(name: &ByteString) -> bool
+    ensures { Decides result (IsComponent name.now) }
+{
+    is_component(name.as_slice())
+}
+
+/// Says whether the names of a node's entries are components.
+fn are_components(alloc: Global, node: &NodeRev) -> Result<bool, AllocError>
+    ensures { IfOk result (λ answer. Decides answer ((name : Component) (kid : NodeId)
+        → kid_of name node.now ≡ Some kid → IsComponent name)) }
+{
+    let entries = node.kids.entries(alloc)?;
+    for entry in &entries {
+        if !is_right_name(&entry.0) {
+            return Ok(false);
+        }
+    }
+    Ok(true)
 }
 
 impl NextBlock<'_> {
@@ -66,27 +87,30 @@ impl NextBlock<'_> {
     {
         let path = directory.child(alloc, name.clone()?)?;
         let is_placed = self.is_new_kid(place, &path, kid) || self.is_old_kid(&path, kid);
-        Ok(is_placed && is_component(name.as_slice()))
+        Ok(is_placed && is_right_name(name))
     }
 
-    /// Says whether the entries of a node, at its place of the block, are those that it may have.
+    /// Says whether the entries of a node, at its place of the block, are those that it may have. Those that were there
+    /// before are: so it looks at those that are new, and at the names of all.
     pub(crate) fn are_right_kids(
         self,
         alloc: Global,
         place: usize,
+        new: &[&(ByteString, NodeId)],
         node: &NodeRev,
     ) -> Result<bool, AllocError>
-        requires { IsStrictlySortedBy path_cmp (keys_of self.changes.now) }
+        requires sorted { IsStrictlySortedBy path_cmp (keys_of self.changes.now) }
+        requires new { AreNews node.now.kids (kid_at (node_at self.nodes.now)
+            (id_before (past_of self.nodes.now) node.now.path)) (map deref new.now) }
         ensures { IfOk result (λ answer. Decides answer ((name : Component) (kid : NodeId)
             → kid_of name node.now ≡ Some kid → IsRightKid (past_of self.entry.nodes.now)
             self.entry.block.now self.entry.changes.now place node.now.path name kid)) }
     {
-        let entries = node.kids.entries(alloc)?;
-        for entry in &entries {
+        for entry in new {
             if !self.is_right_kid(alloc, place, &node.path, &entry.0, entry.1)? {
                 return Ok(false);
             }
         }
-        Ok(true)
+        are_components(alloc, node)
     }
 }

@@ -1,14 +1,15 @@
 //! The rules of each node of a block.
-ghost use Rattle.std.specs.{Prelude.{◌≡◌, ◌<◌, ◌≤◌, true, length, List, ℕ, IfOk, None, Some, slice_get, Decides}, Arc.arc_value};
-ghost use Rattle.std.specs.{List.Sorted.IsStrictlySortedBy, Map.keys_of};
+ghost use Rattle.std.specs.{Prelude.{◌≡◌, ◌<◌, ◌≤◌, map, true, length, List, ℕ, IfOk, None, Some, slice_get, Decides}, Arc.arc_value};
+ghost use Rattle.std.specs.{List.Sorted.IsStrictlySortedBy, Map.{keys_of, Iter.deref}};
 ghost use Rattle.svnpath.specs.Paths.{Component, path_cmp};
 ghost use Rattle.repo_api.specs.Trees.{is_directory_content};
-ghost use Rattle.noderevs.specs.{Heights.IsHeight, Held.count, Nodes.kid_of, declared.node_rev.NodeRev.NodeRev};
+ghost use Rattle.noderevs.specs.{Heights.{AreNews, IsHeight}, Held.{count, node_at}, Nodes.{kid_at, kid_of}, declared.node_rev.NodeRev.NodeRev};
 ghost use Rattle.next_blocks.specs.Rules.{IsRightFile, IsRightNode, KeepsOwn, beside, id_in, past_of};
 
 use crate::changes::is_made;
 use crate::kids::is_id;
 use crate::next_block::NextBlock;
+use byte_string::ByteString;
 use noderevs::{NodeId, NodeRev};
 use repo_api::{Content, TEXT_LIMIT};
 use std::alloc::{AllocError, Global};
@@ -71,14 +72,23 @@ impl NextBlock<'_> {
     }
 
     /// Says whether a node has its height.
-    fn has_its_height(self, alloc: Global, node: &NodeRev) -> Result<bool, AllocError>
-        requires { count self.nodes.now < 262144 }
+    fn has_its_height(
+        self,
+        alloc: Global,
+        before: Option<NodeId>,
+        new: &[&(ByteString, NodeId)],
+        node: &NodeRev,
+    ) -> Result<bool, AllocError>
+        requires room { count self.nodes.now < 262144 }
+        requires new { AreNews node.now.kids (kid_at (node_at self.nodes.now) before)
+            (map deref new.now) }
         ensures { IfOk result (λ answer. Decides answer (IsHeight (beside
             (past_of self.entry.nodes.now) self.entry.block.now) node.now.kids node.now.height)) }
     {
         let rev = self.nodes.count() as u32;
         let block = self.block.nodes.as_slice();
-        let height = self.nodes.height_over(alloc, rev, block, &node.kids)?;
+        let nodes = self.nodes;
+        let height = nodes.height_with(alloc, rev, block, before, new, &node.kids)?;
         Ok(height == node.height)
     }
 
@@ -104,10 +114,13 @@ impl NextBlock<'_> {
             (past_of self.entry.nodes.now) self.entry.block.now self.entry.changes.now place
             node.now)) }
     {
-        if !self.has_its_height(alloc, node)? || !is_right_file(alloc, node)? {
+        let before = self.find_before(node.path.components());
+        let new = self.nodes.news(alloc, before, &node.kids)?;
+        let new = new.as_slice();
+        if !self.has_its_height(alloc, before, new, node)? || !is_right_file(alloc, node)? {
             return Ok(false);
         }
-        if !self.names_own(alloc, node)? || !self.are_right_kids(alloc, place, node)? {
+        if !self.names_own(alloc, node)? || !self.are_right_kids(alloc, place, new, node)? {
             return Ok(false);
         }
         Ok(self.is_placed(place, node) && self.keeps_own(node))

@@ -5,4 +5,6 @@ pub mod FirstBlock
 pub mod Names
 pub mod Heights
 pub mod Apart
+mod NamesApart
 pub mod Earlier
+pub mod Beside

@@ -2,10 +2,12 @@
 #![tactic(auto)]
 
 mod adding;
+mod differing;
 mod height;
 mod laws;
 mod listing;
 mod looking;
+mod news;
 mod node_rev;
 mod nodes;
 mod opening;

@@ -2,7 +2,7 @@
 ghost use Rattle.std.specs.Prelude.{◌≡◌};
 
 use repo_api::{Content, Properties};
-use shared_map::SharedMap;
+use shared_map::{Same, SharedMap};
 use std::alloc::AllocError;
 use std::sync::Arc;
 use svnpath::Path;
@@ -12,6 +12,12 @@ use svnpath::Path;
 pub struct NodeId {
     pub rev: u32,
     pub place: u64,
+}
+
+impl Same for NodeId {
+    fn is_same(&self, other: &Self) -> bool {
+        self == other
+    }
 }
 
 /// The revision and the path at which a change was made.

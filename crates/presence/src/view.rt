@@ -100,6 +100,19 @@ impl<V: Repository, P: Presence> Repository for AttendedView<V, P> {
         self.view.is_same(revision, path, other, other_path)
     }
 
+    fn differing_names(
+        &self,
+        revision: u64,
+        path: &Path,
+        other: u64,
+        other_path: &Path,
+    ) -> Result<Option<Vec<&ByteString>>, AllocError> {
+        if self.has_no_client() {
+            return Err(AllocError);
+        }
+        self.view.differing_names(revision, path, other, other_path)
+    }
+
     fn changes(&self, revision: u64) -> &[(Path, Change)] {
         self.view.changes(revision)
     }

@@ -1,6 +1,6 @@
 -- What a directory of a revision shows: the names of its entries.
-use Rattle.std.specs.{Prelude.{◌≡◌, ℕ, List, [], ◌∷◌, ◌++◌, length, drop, Option, Some, None, if◌then◌else◌}, FinMap.keys, List.filter_map}
-use Rattle.svnpath.specs.Paths.{Component, is_at_or_under, PathValue}
+use Rattle.std.specs.{Prelude.{◌≡◌, ◌⊎◌, ℕ, Bool, true, List, [], ◌∷◌, ◌++◌, length, drop, Option, Some, None, if◌then◌else◌}, FinMap.keys, List.{filter_map, list_any}}
+use Rattle.svnpath.specs.Paths.{Component, is_at_or_under, PathValue, same_component}
 use Rattle.repo_api.specs.States.{TreeMap, RepoState, tree_at, trees_in}
 
 -- the item of a list of one
@@ -34,3 +34,14 @@ names_at c n p = names_in (tree_at c n) p
 abbrev pub IsSameAt : RepoState → ℕ → PathValue → ℕ → PathValue → Type 0
 IsSameAt c n p m q =
     (rest : PathValue) → trees_in c.revisions n (p ++ rest) ≡ trees_in c.revisions m (q ++ rest)
+
+-- the name is one of these
+abbrev pub is_name_among : List Component → Component → Bool
+is_name_among names c = list_any (same_component c) names
+
+-- By no other names do two directories of revisions differ: at every other name, and under it, the
+-- one has what the other has.
+abbrev pub DifferAtMostBy : RepoState → ℕ → PathValue → ℕ → PathValue → List Component → Type 0
+DifferAtMostBy c n p m q names =
+    (name : Component) → (is_name_among names name ≡ true)
+    ⊎ IsSameAt c n (p ++ name ∷ []) m (q ++ name ∷ [])

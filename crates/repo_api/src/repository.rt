@@ -1,10 +1,10 @@
 //! A repository, by what it contains.
-ghost use Rattle.std.specs.{Prelude.{◌≡◌, ◌≤◌, ◌<◌, true, length, map, IfOk, option_copied, slice_get}, FinMap.get, Map.Iter.{deref, deref_pair}};
+ghost use Rattle.std.specs.{Prelude.{◌≡◌, ◌≤◌, ◌<◌, true, length, map, IfOk, IfSome, option_copied, slice_get}, FinMap.get, Map.Iter.{deref, deref_pair}};
 ghost use Rattle.repo_api.specs.{States.{RepoState, TxnState, IsBeginning, IsBegun, EditsTxn, tree_of, trees_in, youngest}, Accepted.MakesChange};
 ghost use Rattle.repo_api.specs.{Accepted.Accepted.{ChangesProperty, Commits, Locks, Releases, Unlocks}, Commits.IsRefusedAt, RightEdits.IsRightEdit};
 ghost use Rattle.repo_api.specs.{Locking.{at_or_under, releases}, Histories.{history_of, IsQuietSince}};
 ghost use Rattle.repo_api.specs.Kinds.{kind_at, has_deeper_at, created_at, node_properties_at, text_at, kind_in, created_in, text_in};
-ghost use Rattle.repo_api.specs.{Dates.IsUndatedSince, Readings.{names_at, IsSameAt}};
+ghost use Rattle.repo_api.specs.{Dates.IsUndatedSince, Readings.{names_at, DifferAtMostBy, IsSameAt}};
 
 use crate::ask::CommitAsk;
 use crate::change::Change;
@@ -77,6 +77,22 @@ pub trait Repository: Drop {
             → IsSameAt (content self.now) revision path.now other other_path.now }
     {
         false
+    }
+
+    /// Gives names among which are all by which a directory of a revision and another of another revision differ, `None`
+    /// where the repository cannot tell. A name too many is always right, and one may be there twice; a repository that
+    /// can tell does not look at what lies beneath the entries.
+    fn differing_names(
+        &self,
+        revision: u64,
+        path: &Path,
+        other: u64,
+        other_path: &Path,
+    ) -> Result<Option<Vec<&ByteString>>, AllocError>
+        ensures { IfOk result (λ found. IfSome found (λ names. DifferAtMostBy (content self.now)
+            revision path.now other other_path.now (map deref names.items))) }
+    {
+        Ok(None)
     }
 
     /// Gives the changes of a revision in the order of their paths, none for a number that no revision has.

@@ -45,7 +45,7 @@ values_insert i xs x =
 pub values_set : {X Z : Type 0} (i : ℕ) (xs : List (Arc X Z)) (x : Arc X Z) → values (slice_set xs i x) ≡ slice_set (values xs) i x.value
 values_set i xs x = map-set (λ a. a.value) xs i x
 
-value_at : {X Z : Type 0} (xs : List (Arc X Z)) (i : ℕ) (x : Arc X Z) → slice_get xs i ≡ Some x → slice_get (values xs) i ≡ Some x.value
+pub value_at : {X Z : Type 0} (xs : List (Arc X Z)) (i : ℕ) (x : Arc X Z) → slice_get xs i ≡ Some x → slice_get (values xs) i ≡ Some x.value
 value_at [] i x is = absurd (none-some x is)
 value_at (y ∷ xs) zero x is = ap (option_map (λ a. a.value)) is
 value_at (y ∷ xs) (suc i) x is = value_at xs i x is

@@ -61,7 +61,7 @@ module _ {X Y Z V : Type 0} where
 abbrev pub AreFilled : {X Y Z V : Type 0} → List (Arc (Vec (Arc X Y) Z) V) → Type 0
 AreFilled parts = AllByRecursion IsFilled (values parts)
 
-one_and : {X : Type 0} (P : X → Type 0) (x : X) (xs : List X) → P x → AllByRecursion P xs → AllByRecursion P (x ∷ xs)
+pub one_and : {X : Type 0} (P : X → Type 0) (x : X) (xs : List X) → P x → AllByRecursion P xs → AllByRecursion P (x ∷ xs)
 one_and P x xs h all = (h, all)
 
 pub filled_set : {X Y Z V : Type 0} (parts : List (Arc (Vec (Arc X Y) Z) V)) (i : ℕ) (b : Arc (Vec (Arc X Y) Z) V) → AreFilled parts → IsFilled b.value → AreFilled (slice_set parts i b)

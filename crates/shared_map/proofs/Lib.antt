@@ -3,3 +3,5 @@ mod InParts
 mod Copies
 mod Maps
 mod Places
+mod Rows
+mod Unlike

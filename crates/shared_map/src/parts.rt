@@ -7,7 +7,7 @@ use std::alloc::{AllocError, Global};
 use std::sync::Arc;
 
 /// The most entries of a part.
-const PART_LIMIT: usize = 128;
+pub(crate) const PART_LIMIT: usize = 128;
 
 /// The entries that a part may have however few parts there are.
 const LEAST_LIMIT: usize = 32;

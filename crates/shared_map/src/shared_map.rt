@@ -1,12 +1,16 @@
 //! The map as a whole.
-ghost use Rattle.std.specs.{Prelude.{◌≡◌, map, IfOk, OnOk, OnErr, option_copied}, FinMap.{empty, get, insert, remove, entries, keys}};
+ghost use Rattle.std.specs.Prelude.{◌≡◌, ◌⊎◌, ℕ, List, Some, T, map, IfOk, OnOk, OnErr, option_copied};
+ghost use Rattle.std.specs.{FinMap.{empty, get, insert, remove, entries, keys}, FinMap.Entries.is_sorted, List.{All, Contains}};
 ghost use Rattle.std.specs.{List.Sorted.IsStrictlySortedBy, Map.Iter.deref};
-ghost use Rattle.shared_map.specs.Entries.{by_bytes};
+ghost use Rattle.shared_map.specs.{Entries.by_bytes, Rows.row_entries};
 
+use crate::comparing::unlike;
 use crate::listing::{entries_of, names_of};
 use crate::parts::{Part, shared};
 use crate::putting::put_entry;
+use crate::remaking::remade;
 use crate::removing::remove_entry;
+use crate::same::Same;
 use crate::searching::find;
 use byte_string::ByteString;
 use std::alloc::{AllocError, Global};
@@ -95,5 +99,33 @@ impl<V: Drop> SharedMap<V> {
         ensures ordered { IsStrictlySortedBy by_bytes (keys self.now) }
     {
         names_of(alloc, &self.parts)
+    }
+}
+
+impl<V: Same + Drop> SharedMap<V> {
+    /// Makes a map of these rows, which are in the order of their names. It shares what this map has of them.
+    pub fn remade(&self, alloc: Global, rows: &[(&ByteString, V)]) -> Result<Self, AllocError>
+        requires { T (is_sorted by_bytes (row_entries rows.now)) }
+        ensures { IfOk result (λ made. entries made ≡ row_entries rows.now) }
+    {
+        let parts = remade(alloc, &self.parts, rows)?;
+        Ok(SharedMap { parts })
+    }
+
+    /// Lists the entries that another map has not.
+    pub fn unlike(
+        &self,
+        alloc: Global,
+        other: &SharedMap<V>,
+    ) -> Result<Vec<&(ByteString, V)>, AllocError>
+        ensures from { IfOk result (λ list. All (λ e. get self.now e.0 ≡ Some e.1)
+            (map deref list.items)) }
+        ensures others { IfOk result (λ list. (name : List ℕ) (value : V)
+            → get self.now name ≡ Some value → (get other.now name ≡ Some value)
+            ⊎ Contains (map deref list.items) (name, value)) }
+    {
+        let entries = entries_of(alloc, &self.parts)?;
+        let others = entries_of(alloc, &other.parts)?;
+        unlike(alloc, entries.as_slice(), others.as_slice())
     }
 }

@@ -107,6 +107,17 @@ impl Repository for World {
         self.held.is_same(revision, path, other, other_path)
     }
 
+    fn differing_names(
+        &self,
+        revision: u64,
+        path: &Path,
+        other: u64,
+        other_path: &Path,
+    ) -> Result<Option<Vec<&ByteString>>, AllocError> {
+        self.held
+            .differing_names(self.alloc, revision, path, other, other_path)
+    }
+
     fn changes(&self, revision: u64) -> &[(Path, Change)] {
         self.held.changes(revision)
     }

@@ -1,22 +1,11 @@
-use Rattle.std.proofs.{Common.{◌||◌, sym, ap, ◌∙◌, take}, lemmas.List.Folds.list_any_more}
-use Rattle.std.specs.List.{list_any}
-use Rattle.svnpath.specs.Paths.{same_component}
-use Rattle.drive_sides.specs.Names.{is_name_among}
-use Rattle.drive_sides.proofs.Naming.{among_inserted, among_lent, with_name, take-all}
+use Rattle.std.proofs.Common.{◌||◌, ap, ◌∙◌, map}
+use Rattle.std.specs.Map.Iter.{deref}
+use Rattle.repo_api.specs.Readings.{is_name_among}
+use Rattle.drive_sides.proofs.Listing.{on_ok}
 use Rattle.drive_sides.proofs.names.put_names.Goals as goal
 
-pub loop-name-preserved : goal.loop-name-preserved
-loop-name-preserved g c = λ x.
-    ap (λ ks. is_name_among ks x) c.in_ok-insert.ensures.keys
-    ∙ among_inserted c.loop-name.names.keys c.in_ok-clone.field-0 x
-    ∙ with_name (is_name_among c.loop-name.names.keys x) (is_name_among c.args.names.now.keys x) (list_any (λ n. same_component x n.now) (take c.loop-name.name-index c.deref-name-items.result.now)) (same_component x c.in_ok-clone.field-0) (c.loop-name.invariant x)
-    ∙ ap (λ b. is_name_among c.args.names.now.keys x || b)
-    (ap (λ y. list_any (λ n. same_component x n.now) (take c.loop-name.name-index c.deref-name-items.result.now) || same_component x y) (c.in_ok-clone.ensures.cases ∙ ap (λ n. n.now) c.name-item.is)
-    ∙ sym (list_any_more (λ n. same_component x n.now) c.deref-name-items.result.now c.loop-name.name-index c.name-item.result c.loop-name-test.true))
-
 pub returns : goal.returns
-returns g c = λ x.
-    c.loop-name.invariant x
-    ∙ ap (λ b. is_name_among c.args.names.now.keys x || b)
-    (ap (λ ns. list_any (λ n. same_component x n.now) ns) (take-all c.loop-name.name-index c.deref-name-items.result.now c.loop-name-test.false ∙ c.deref-name-items.ensures.value)
-    ∙ among_lent c.in_ok-found.found.items x ∙ ap (λ ns. is_name_among ns x) c.in_ok-found.ensures)
+returns g c =
+    on_ok (λ put x.
+    put x ∙ ap (λ ns. is_name_among c.args.names.now.keys x || is_name_among ns x) (ap (map deref) c.deref.ensures.value ∙ c.in_ok-found.ensures)) c.put_all.result
+    c.put_all.ensures

@@ -5,7 +5,7 @@ use Rattle.reporter.specs.Walks.{AreAlike}
 use Rattle.drive_reports.specs.Places.{AllHoldTogether}
 use Rattle.drive_sides.specs.{Lines.KeepsLines, Plans.{drive_trees, whole}}
 use Rattle.drive_sides.proofs.Knowing.{rebased_child}
-use Rattle.drive_sides.proofs.SameBeneath.{alike_in_pair}
+use Rattle.drive_sides.proofs.{SameBeneath.{alike_in_pair, pair_beside}, Ungrafted.none_at}
 use Rattle.drive_sides.proofs.two_trees.TwoTrees.is_alike_in.Goals as goal
 
 pub returns : goal.returns
@@ -20,7 +20,8 @@ returns g c =
     let same = c.is_same.ensures c.if-not-is_same.false in
     IfOk-weaker c.keeps_lines.result _ _ (λ alike keeps said.
     subst (AreAlike (drive_trees state report)) (sym c.requires.child.1)
-    (alike_in_pair state report p c.args.pair x together c.requires.known.under c.requires.pair
+    (alike_in_pair state report p c.args.pair x together c.requires.known.under (pair_beside state report p c.args.pair c.requires.pair)
+    (none_at report.grafts p x c.requires.pair.free)
     (subst (λ q. IsSameAt state c.args.pair.revision (c.args.pair.old.now ++ x ∷ []) report.ask.revision q) new (subst (λ q. IsSameAt state c.args.pair.revision q report.ask.revision c.in_ok-new.new) old same))
     (subst (λ q. KeepsLines state report.ask (place_at c.args.pair.revision (c.args.pair.old.now ++ x ∷ [])) (place_at report.ask.revision q)) new
     (subst (λ q. KeepsLines state report.ask (place_at c.args.pair.revision q) (place_at report.ask.revision c.in_ok-new.new)) old (keeps said)))))

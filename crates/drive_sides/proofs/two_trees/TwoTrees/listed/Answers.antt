@@ -2,7 +2,8 @@ use Rattle.std.proofs.Common.{◌||◌, rules, sym, ap, subst, ◌∙◌}
 use Rattle.reporter.specs.Walks.{IsListed}
 use Rattle.reporter.proofs.Children.{children_all, children_are}
 use Rattle.drive_reports.specs.{Places.AllHoldTogether, Targets.{new_tree, old_tree}}
-use Rattle.drive_sides.specs.{Names.{ArePut, graft_names, is_name_among}, Plans.{drive_trees, whole}}
+use Rattle.repo_api.specs.Readings.{is_name_among}
+use Rattle.drive_sides.specs.{Names.{ArePut, graft_names}, Plans.{drive_trees, whole}}
 use Rattle.drive_sides.proofs.Listing.{if_ok_both, new_named, old_named}
 use Rattle.drive_sides.proofs.two_trees.TwoTrees.listed.Goals as goal
 
