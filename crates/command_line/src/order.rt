@@ -16,7 +16,7 @@ pub enum Location {
 
 /// Sessions over TCP: the repository of this name, where to listen, the file of users, how many sessions there may be at a
 /// time, and how many of them the clients of one address may have, whether clients may change the properties of revisions,
-/// and whether nothing is told on standard error but a fault.
+/// whether nothing is told on standard error but a fault, and whether the program ends once changes have come to a halt.
 #[derive(Debug, Drop)]
 pub struct Service {
     pub location: Location,
@@ -27,6 +27,7 @@ pub struct Service {
     pub per_address: u64,
     pub revprops: bool,
     pub quiet: bool,
+    pub exit_on_halt: bool,
     ghost served: { 1 ≤ per_address },
     ghost placed: { per_address ≤ sessions },
     ghost bounded: { sessions ≤ SESSION_LIMIT },

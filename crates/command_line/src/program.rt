@@ -52,6 +52,9 @@ pub(crate) const REVPROPS: &str = "revprops";
 /// The argument by which nothing is told on standard error but a fault.
 pub(crate) const QUIET: &str = "quiet";
 
+/// The argument by which the program ends once changes have come to a halt.
+pub(crate) const EXIT_ON_HALT: &str = "exit-on-halt";
+
 /// Makes an argument with a value that has to be there.
 fn required_argument<'a>(alloc: Global, name: &'a str, value: &'a str, help: &'a str) -> Arg<'a> {
     optional_argument(alloc, name, value, help).required(true)
@@ -163,6 +166,15 @@ fn quiet_argument<'a>(alloc: Global) -> Arg<'a> {
     flag_argument(alloc, QUIET, "Writes nothing on standard error but a fault")
 }
 
+/// Makes the argument by which the program ends once changes have come to a halt.
+fn exit_on_halt_argument<'a>(alloc: Global) -> Arg<'a> {
+    flag_argument(
+        alloc,
+        EXIT_ON_HALT,
+        "Ends with status 1 once changes have come to a halt and all sessions have ended",
+    )
+}
+
 /// Makes the command `migrate DIR NEW [--quiet]`.
 fn migrate_command<'a>(alloc: Global) -> Result<Command<'a>, AllocError> {
     Command::new(alloc, MIGRATE)
@@ -192,7 +204,7 @@ fn stdio_command<'a>(alloc: Global) -> Result<Command<'a>, AllocError> {
 }
 
 /// Makes the command `serve DIR --listen ADDRESS:PORT --name NAME --users FILE [--sessions COUNT] [--per-address COUNT]
-/// [--revprops] [--quiet]`.
+/// [--revprops] [--quiet] [--exit-on-halt]`.
 fn serve_command<'a>(alloc: Global) -> Result<Command<'a>, AllocError> {
     Command::new(alloc, SERVE)
         .about("Serves many clients at a time over TCP, at svn://HOST:PORT/NAME")
@@ -203,7 +215,8 @@ fn serve_command<'a>(alloc: Global) -> Result<Command<'a>, AllocError> {
         .arg(sessions_argument(alloc))?
         .arg(per_address_argument(alloc))?
         .arg(revprops_argument(alloc))?
-        .arg(quiet_argument(alloc))
+        .arg(quiet_argument(alloc))?
+        .arg(exit_on_halt_argument(alloc))
 }
 
 /// Makes the command `status ADDRESS:PORT --name NAME`.

@@ -5,8 +5,8 @@ ghost use Rattle.command_line.specs.{Counts.{IsCount, IsWithin}, declared.order.
 use crate::fault::CommandLineFault;
 use crate::order::{Location, NewFormat, Order, SESSION_LIMIT, Service};
 use crate::program::{
-    ADDRESS, CREATE, FOLDER, FORMAT, LISTEN, MIGRATE, NAME, NEW, PER_ADDRESS, QUIET, REVPROPS,
-    SERVE, SESSIONS, STATUS, USERS, program,
+    ADDRESS, CREATE, EXIT_ON_HALT, FOLDER, FORMAT, LISTEN, MIGRATE, NAME, NEW, PER_ADDRESS, QUIET,
+    REVPROPS, SERVE, SESSIONS, STATUS, USERS, program,
 };
 use clap::error::ErrorKind;
 use clap::{ArgMatches, Error};
@@ -201,6 +201,7 @@ fn serve_order(alloc: Global, matches: &ArgMatches<'_>) -> Result<Order, Command
         per_address,
         revprops: matches.get_flag(REVPROPS),
         quiet: matches.get_flag(QUIET),
+        exit_on_halt: matches.get_flag(EXIT_ON_HALT),
     }))
 }
 

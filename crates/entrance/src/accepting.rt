@@ -10,7 +10,7 @@ use refusals::Refusal;
 use session_pool::{Admission, SessionPool};
 use std::alloc::Global;
 use std::collections::VecDeque;
-use std::net::{IpAddr, SocketAddr, TcpListener, TcpStream};
+use std::net::{IpAddr, Net, SocketAddr, TcpListener, TcpStream};
 use std::sync::Wait;
 use std::thread;
 use std::time::{Clock, Duration};
@@ -28,14 +28,17 @@ const RETURN_LIMIT: u64 = 20;
 /// How long the listener sleeps while clients wait for a place and none comes, in milliseconds.
 const TURN: u64 = 2;
 
+/// How long it sleeps while it waits for the last session to end, in milliseconds.
+const LAST_TURN: u64 = 50;
+
 /// What may come to a halt.
 pub trait Halts {
     /// Says whether changes are known to have come to a halt. It waits for nobody.
     fn takes_no_changes(&self) -> bool;
 }
 
-/// Where so many connections come in, so many of one address at a time, with what is known of those that have places, and what
-/// may come to a halt.
+/// Where so many connections come in, so many of one address at a time, with what is known of those that have places, what
+/// may come to a halt, and whether no more are taken then.
 pub struct Entrance<'a, R, H: Drop> {
     pub rt: &'a R,
     pub alloc: Global,
@@ -44,6 +47,14 @@ pub struct Entrance<'a, R, H: Drop> {
     pub per_address: u64,
     pub registry: Registry<'a, R>,
     pub repository: H,
+    pub exits_on_halt: bool,
+}
+
+impl<'a, R, H: Halts + Drop> Entrance<'a, R, H> {
+    /// Says whether no more connections are to be taken, since changes have come to a halt.
+    pub fn is_closing(&self) -> bool {
+        self.exits_on_halt && self.repository.takes_no_changes()
+    }
 }
 
 impl<'a, R, H: Drop> Drop for Entrance<'a, R, H> {
@@ -56,6 +67,7 @@ impl<'a, R, H: Drop> Drop for Entrance<'a, R, H> {
             per_address: _,
             registry: _,
             repository: _,
+            exits_on_halt: _,
         } = self;
     }
 }
@@ -78,7 +90,7 @@ struct Acceptor<'s, 'e, R, H: Drop> {
     left: usize,
 }
 
-impl<'s, 'e, R: Wait + Clock, H: Halts + Drop> Acceptor<'s, 'e, R, H> {
+impl<'s, 'e, R: Clock + Net + Wait, H: Halts + Drop> Acceptor<'s, 'e, R, H> {
     /// Says whether one address may not have all sessions.
     fn has_limit(&self) -> bool {
         self.entrance.per_address < self.entrance.registry.sessions()
@@ -218,6 +230,12 @@ impl<'s, 'e, R: Wait + Clock, H: Halts + Drop> Acceptor<'s, 'e, R, H> {
                 self.put(newcomer);
             }
         }
+        // sessions that are silent are to end too, so that the last one does
+        let wanted = if self.entrance.is_closing() {
+            usize::MAX
+        } else {
+            wanted
+        };
         self.entrance.registry.want(wanted);
     }
 
@@ -243,14 +261,15 @@ impl<'s, 'e, R: Wait + Clock, H: Halts + Drop> Acceptor<'s, 'e, R, H> {
         }
     }
 
-    /// Takes a connection that has come, and says whether there was one. While no client waits for a place it waits for one.
+    /// Takes a connection that has come, and says whether there was one. While no client waits for a place, and more are to be
+    /// taken, it waits for one.
     fn accept(&mut self) -> bool {
         if self.left == 0 {
             return false;
         }
         let listener = self.entrance.listener;
         // where the mode cannot be set, it is as it was
-        let _ = listener.set_nonblocking(!self.queue.is_empty());
+        let _ = listener.set_nonblocking(!self.queue.is_empty() || self.entrance.is_closing());
         let Ok((stream, peer)) = listener.accept() else {
             return false;
         };
@@ -263,22 +282,38 @@ impl<'s, 'e, R: Wait + Clock, H: Halts + Drop> Acceptor<'s, 'e, R, H> {
         true
     }
 
+    /// Says whether no more connections are to be taken and nobody waits for a place. Where changes have come to a halt, that is
+    /// once all sessions have ended; until then clients are turned away.
+    fn is_over(&self) -> bool {
+        let is_last = self.entrance.is_closing() && self.entrance.registry.is_empty();
+        self.queue.is_empty() && (self.left == 0 || is_last)
+    }
+
+    /// Says how long to sleep where nobody has come, in milliseconds.
+    fn turn(&self) -> u64 {
+        if self.queue.is_empty() {
+            LAST_TURN
+        } else {
+            TURN
+        }
+    }
+
     /// Takes connections until no more are to be taken and nobody waits for a place.
     fn run(&mut self) {
         for _ in self.entrance.rt.forever() {
             self.look();
-            if self.left == 0 && self.queue.is_empty() {
+            if self.is_over() {
                 return;
             }
             if !self.accept() {
-                thread::sleep(self.entrance.rt, Duration::from_millis(TURN));
+                thread::sleep(self.entrance.rt, Duration::from_millis(self.turn()));
             }
         }
     }
 }
 
 /// Takes connections as they come.
-pub fn take_all<'e, R: Wait + Clock, H: Halts + Drop>(
+pub fn take_all<'e, R: Clock + Net + Wait, H: Halts + Drop>(
     entrance: &'e Entrance<'e, R, H>,
     pool: &SessionPool<'_, Registry<'_, R>, Registry<'_, R>>,
     callers: &Sender<Client<'e, R>>,

@@ -8,14 +8,17 @@ use journals::Journal;
 use session_pool::{Gate, TalkFault, Watch};
 use std::alloc::{AllocError, Global};
 use std::io::Eprint;
-use std::net::{IpAddr, SocketAddr};
+use std::net::{IpAddr, Net, SocketAddr, TcpStream};
 use std::sync::atomic::{AtomicBool, AtomicU64, Ordering};
 use std::sync::{Mutex, Wait};
-use std::time::Clock;
+use std::time::{Clock, Duration};
 
 /// How long a session in which a login was refused waits before it reads on, in milliseconds: so passwords are not guessed
 /// fast.
 const REFUSED_REST: u64 = 1_000;
+
+/// How long it is waited for the connection that wakes the thread that takes connections, in seconds.
+const WAKE_LIMIT: u64 = 1;
 
 /// Knows which sessions are open, and what each awaits, and tells of them.
 pub struct Registry<'a, R> {
@@ -24,6 +27,10 @@ pub struct Registry<'a, R> {
     journal: Journal<'a, R>,
     /// How many sessions there may be at a time.
     sessions: u64,
+    /// How many are open.
+    open: AtomicU64,
+    /// Where a connection wakes the thread that takes connections, if that is to end once changes have come to a halt.
+    wakes_at: Option<SocketAddr>,
     told_of_halt: AtomicBool,
     /// Until when some session reads nothing, at the latest.
     rests_until: AtomicU64,
@@ -39,6 +46,8 @@ impl<'a, R> Drop for Registry<'a, R> {
             alloc: _,
             journal: _,
             sessions: _,
+            open: _,
+            wakes_at: _,
             told_of_halt: _,
             rests_until: _,
             notes: _,
@@ -57,13 +66,22 @@ fn number_of(address: IpAddr) -> u64 {
 }
 
 impl<'a, R> Registry<'a, R> {
-    /// Makes a registry of no sessions, where there may be so many, which tells of them in a journal.
-    pub fn new(rt: &'a R, alloc: Global, journal: Journal<'a, R>, sessions: u64) -> Self {
+    /// Makes a registry of no sessions, where there may be so many, which tells of them in a journal. Once changes have come to
+    /// a halt it makes a connection to this address, if there is one.
+    pub fn new(
+        rt: &'a R,
+        alloc: Global,
+        journal: Journal<'a, R>,
+        sessions: u64,
+        wakes_at: Option<SocketAddr>,
+    ) -> Self {
         Registry {
             rt,
             alloc,
             journal,
             sessions,
+            open: AtomicU64::new(0),
+            wakes_at,
             told_of_halt: AtomicBool::new(false),
             rests_until: AtomicU64::new(0),
             notes: Notes::new(alloc, sessions),
@@ -84,6 +102,11 @@ impl<'a, R> Registry<'a, R> {
     /// Says how many sessions there may be at a time.
     pub(crate) fn sessions(&self) -> u64 {
         self.sessions
+    }
+
+    /// Says whether no session is open.
+    pub(crate) fn is_empty(&self) -> bool {
+        self.open.load(Ordering::SeqCst) == 0
     }
 
     /// Gives the runtime.
@@ -129,6 +152,7 @@ impl<'a, R: Clock + Wait> Registry<'a, R> {
     pub(crate) fn begins(&self, session: u64, peer: SocketAddr) -> Result<(), AllocError> {
         let (address, now) = (number_of(peer.ip()), millis_now(self.rt));
         self.guests.lock(self.rt).come(session, address, now)?;
+        self.open.fetch_add(1, Ordering::SeqCst);
         self.notes.begin(session);
         self.tell(Event::Begins(session, peer));
         Ok(())
@@ -139,6 +163,7 @@ impl<'a, R: Clock + Wait> Registry<'a, R> {
         self.notes.end(session);
         self.guests.lock(self.rt).go(session);
         self.tell(Event::Ends(session));
+        self.open.fetch_sub(1, Ordering::SeqCst);
     }
 
     /// Notes how many clients wait for a place.
@@ -194,7 +219,17 @@ impl<'a, R: Clock + Wait> Gate for Registry<'a, R> {
     }
 }
 
-impl<'a, R: Clock + Wait> Watch for Registry<'a, R> {
+impl<'a, R: Net> Registry<'a, R> {
+    /// Wakes the thread that takes connections, if it is to end.
+    fn wake(&self) {
+        if let Some(address) = self.wakes_at {
+            // where it cannot be reached, the next client wakes it
+            let _ = TcpStream::connect_timeout(self.rt, &address, Duration::from_secs(WAKE_LIMIT));
+        }
+    }
+}
+
+impl<'a, R: Clock + Net + Wait> Watch for Registry<'a, R> {
     fn logged_in(&self, session: u64, user: &[u8]) {
         if !self.is_quiet() {
             let user = user.escape_ascii();
@@ -223,6 +258,7 @@ impl<'a, R: Clock + Wait> Watch for Registry<'a, R> {
         self.ends(session);
         if is_halted && !self.told_of_halt.swap(true, Ordering::SeqCst) {
             self.tell(Event::StoreFailed);
+            self.wake();
         }
     }
 }

@@ -1,5 +1,5 @@
 -- The nodes of a revision from a place on, and what comes of them.
-use Rattle.std.proofs.Common.{◌≡◌, ◌+◌, ◌≤◌, ℕ, List, [], ◌∷◌, ◌++◌, Option, Some, None, map, drop, length, refl, ap, sym, ⊎_elim, ◌∙◌}
+use Rattle.std.proofs.Common.{◌≡◌, ◌+◌, ◌-◌, ◌<◌, ◌≤◌, ℕ, List, [], ◌∷◌, ◌++◌, Option, Some, None, map, drop, length, refl, ap, sym, ⊎_elim, arith, ◌∙◌}
 use Rattle.std.proofs.lemmas.List.{append_assoc, drop_all, drop_more, length_push, map-append}
 use Rattle.std.proofs.lemmas.Option.{get_or_from_slice_get, none-some, slice_get_cases, slice_get_within}
 use Rattle.std.specs.Prelude.{option_and_then, slice_get}
@@ -27,6 +27,14 @@ past_end xs k none = ⊎_elim (λ some. absurd (none-some some.0 (sym none ∙ s
 -- no node is left
 pub past_all : (r : Revision) (k : ℕ) → node_here r k ≡ None → drop k (nodes_of r) ≡ []
 past_all r k none = drop_all k (nodes_of r) (past_end (nodes_of r) k (at_place r k ∙ none))
+
+-- one less is left
+pub left : (r : Revision) (origins now : List Origin) (o : Origin) (node : NodeRev) → node_here r (length origins) ≡ Some node
+    → now ≡ origins ++ o ∷ [] → length (nodes_of r) - length now < length (nodes_of r) - length origins
+left r origins now o node there grown =
+    let within = slice_get_within (nodes_of r) (length origins) node (at_place r (length origins) ∙ there) in
+    let long : length now ≡ length origins + 1 = ap (λ (os : List Origin). length os) grown ∙ length_push origins o in
+    omega (arith, within, long)
 
 module _ (r : Revision) (origins now : List Origin) (o : Origin) (node : NodeRev) (next after : Counter)
     (there : node_here r (length origins) ≡ Some node) (grown : now ≡ origins ++ o ∷ []) (later : after ≡ next_after r node next) where

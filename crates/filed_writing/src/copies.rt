@@ -1,16 +1,18 @@
 //! The ids that node revisions get: of their nodes, and of the copies that they are of.
 ghost use Rattle.std.specs.{Prelude.{◌≡◌, ◌≤◌, ◌-◌, IfOk, length, map, option_and_then, option_copied, option_map, reverse}, List.Sorted.IsStrictlySortedBy, Map.keys_of};
 ghost use Rattle.svnpath.specs.Paths.{path_cmp};
-ghost use Rattle.filed_writing.specs.{Drafts.{came_from, comes_of, copy_from}, Layout.{all_come, comes, copies_of, copy_of, known_from, made_from, next_after, next_after_all, nodes_of, place_above}, Pieces.{begins, copied}};
+ghost use Rattle.noderevs.specs.Held.{node_at};
+ghost use Rattle.filed_trees.specs.Tables.{placed_in};
+ghost use Rattle.filed_writing.specs.{Drafts.{came_from, comes_of, copy_from}, Layout.{all_come, comes, copies_of, copy_of, known_from, made_from, next_after, next_after_all, nodes_of, place_above}, Pieces.{begins, copied, with_both}, Trails.IsTrail};
 
 use crate::counter::{Counter, taken};
-use crate::origin::predecessor_of;
 use crate::revision::{Revision, puts};
 use crate::text::text_of;
+use crate::trail::Trail;
 use filed_trees::Placed;
 use fsfs_ids::{IdPart, Place};
 use next_blocks::change_of;
-use noderevs::NodeRev;
+use noderevs::{NodeId, NodeRev};
 use repo_api::{Change, Source};
 use std::alloc::{AllocError, Global};
 
@@ -57,26 +59,47 @@ fn copied(change: Option<&Change>) -> Option<&Source>
 }
 
 impl<'a> Revision<'a> {
-    /// Finds what a node revision was made from.
-    fn made_from(self, node: &NodeRev) -> Option<Predecessor<'a>>
-        requires { IsStrictlySortedBy path_cmp (keys_of self.changes.now) }
-        ensures { option_map came_from result ≡ made_from self.entry node.now }
+    /// Finds a node of an earlier revision, and where it stands in the files.
+    fn predecessor(self, id: NodeId) -> Option<Predecessor<'a>>
+        ensures { option_map came_from result
+            ≡ with_both (node_at self.entry.nodes.now id) (placed_in self.entry.tables.now id) }
     {
-        let number = self.number as u64;
-        let id = predecessor_of(self.nodes, self.changes, number, node.path.components())?;
         Some(Predecessor {
             node: self.nodes.node(id)?,
             placed: self.placed(id)?,
         })
     }
 
+    /// Finds what a node revision was made from.
+    fn made_from(
+        self,
+        node: &'a NodeRev,
+        trail: &mut Trail<'a>,
+    ) -> Result<Option<Predecessor<'a>>, AllocError>
+        requires sorted { IsStrictlySortedBy path_cmp (keys_of self.changes.now) }
+        requires trail { IsTrail self trail.now }
+        ensures trail { IsTrail self.entry trail.new }
+        ensures made { IfOk result (λ made. option_map came_from made
+            ≡ made_from self.entry node.now) }
+    {
+        match trail.follow(self, node.path.components())? {
+            Some(id) => Ok(self.predecessor(id)),
+            None => Ok(None),
+        }
+    }
+
     /// Says what a node revision was made from, and gives it the ids that it takes itself.
-    fn origin(self, node: &NodeRev, next: &mut Counter) -> Origin<'a>
-        requires { IsStrictlySortedBy path_cmp (keys_of self.changes.now) }
+    fn origin(
+        self,
+        node: &NodeRev,
+        predecessor: Option<Predecessor<'a>>,
+        next: &mut Counter,
+    ) -> Origin<'a>
+        requires sorted { IsStrictlySortedBy path_cmp (keys_of self.changes.now) }
+        requires made { option_map came_from predecessor ≡ made_from self node.now }
         ensures comes { comes_of result ≡ comes self.entry node.now next.old }
         ensures next { next.new ≡ next_after self.entry node.now next.old }
     {
-        let predecessor = self.made_from(node);
         let number = match predecessor {
             Some(before) => before.placed.id().node,
             None => taken(next.revision, &mut next.node),
@@ -103,9 +126,11 @@ impl<'a> Revision<'a> {
         ensures next { IfOk result (λ _. next.new
             ≡ next_after_all self.entry (nodes_of self.entry) next.old) }
     {
+        let mut trail = Trail::new(alloc);
         let mut origins = Vec::new(alloc);
         while let Some(node) = self.node_here(origins.len() as u64) {
-            origins.push(self.origin(node, next))?;
+            let predecessor = self.made_from(node, &mut trail)?;
+            origins.push(self.origin(node, predecessor, next))?;
         }
         Ok(origins)
     }

@@ -3,7 +3,7 @@ ghost use Rattle.std.specs.{Prelude.{◌≡◌, ◌<◌, true, IfOk, IsSomeAnd, 
 ghost use Rattle.svnpath.specs.Paths.{path_cmp};
 ghost use Rattle.repo_api.specs.Histories.{Changed};
 ghost use Rattle.noderevs.specs.{Held.count, declared.node_rev.NodeId.NodeId, declared.node_rev.NodeRev.NodeRev};
-ghost use Rattle.next_blocks.specs.Rules.{IsMarked, IsNextRevision, IsRightRoot, beside, id_in, is_new, is_new_down_to, past_of};
+ghost use Rattle.next_blocks.specs.Rules.{IsMarked, IsNextRevision, IsRightRoot, beside, id_in, is_new_down_to, past_of};
 
 use crate::next_block::NextBlock;
 use crate::node::is_directory;
@@ -34,23 +34,22 @@ impl NextBlock<'_> {
         }
     }
 
-    /// Says whether what is at a path is of the block, if there is something.
-    fn is_new_at(self, path: &[ByteString]) -> bool
-        ensures { result ≡ is_new (past_of self.entry.nodes.now)
-            (id_in (past_of self.entry.nodes.now) self.entry.block.now path.now) }
-    {
-        match self.find(path) {
-            Some(id) => self.is_new(id),
-            None => true,
-        }
-    }
-
     /// Says whether what is at a path and above it is of the block.
     fn is_new_down_to(self, path: &[ByteString]) -> bool
         ensures { result ≡ is_new_down_to (past_of self.entry.nodes.now) self.entry.block.now
             path.now }
     {
-        (0..path.len() + 1).all(|depth| self.is_new_at(&path[..depth]))
+        let mut at = self.block.root;
+        for name in path {
+            if !self.is_new(at) {
+                return false;
+            }
+            match self.kid(at, name) {
+                Some(kid) => at = kid,
+                None => return true,
+            }
+        }
+        self.is_new(at)
     }
 
     /// Says whether the own last change of what is at a path was made by this revision, if there is

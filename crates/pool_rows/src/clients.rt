@@ -193,7 +193,15 @@ pub(crate) fn serve_with<J, R>(
 )
 where
     J: Naming + Send + Sync + 'static,
-    R: Abort + Clock + Eprint + Print + RandomSource + Threads + Wait + Sync,
+    R: Net<Listener = TcpListener, Stream = TcpStream>
+        + Abort
+        + Clock
+        + Eprint
+        + Print
+        + RandomSource
+        + Threads
+        + Wait
+        + Sync,
     requires { history.seen.book ≡ J.book }
 {
     let (rt, alloc) = (server.rt, server.alloc);
@@ -207,7 +215,15 @@ where
 fn serve<J, R>(rt: &R, alloc: Global, listener: &TcpListener, clients: Clients, history: NewHistory)
 where
     J: Naming + Send + Sync + 'static,
-    R: Abort + Clock + Eprint + Print + RandomSource + Threads + Wait + Sync,
+    R: Net<Listener = TcpListener, Stream = TcpStream>
+        + Abort
+        + Clock
+        + Eprint
+        + Print
+        + RandomSource
+        + Threads
+        + Wait
+        + Sync,
     requires { history.seen.book ≡ J.book }
 {
     let settings = Settings {
@@ -218,6 +234,7 @@ where
         is_exposed: false,
         is_writable: false,
         is_quiet: true,
+        exits_on_halt: false,
     };
     let server = Server {
         rt,

@@ -62,6 +62,7 @@ fn settings<R: Abort + Runtime>(rt: &R, alloc: Global) -> Settings {
         per_address: 16,
         revprops: false,
         quiet: true,
+        exit_on_halt: false,
     };
     let read = read_settings(rt, alloc, &asked);
     fs::remove_file(rt, "guests").expect(rt, "the file");

@@ -53,6 +53,7 @@ fn is_told<R: Abort + Runtime>(
         per_address: 16,
         revprops: false,
         quiet: true,
+        exit_on_halt: false,
     };
     match read_settings(rt, alloc, &asked) {
         Ok(_) => wanted.is_empty(),

@@ -14,10 +14,11 @@ OptionsAreAsked service s =
       revprops = service.revprops;
     })
 
--- where the server listens, and whether it is quiet
+-- where the server listens, whether it is quiet, and whether it ends once changes have come to a halt
 abbrev pub PlaceIsAsked : Service → Settings → Type 0
 PlaceIsAsked service s =
     IsSocketText (string_bytes service.listen) s.address × (s.is_quiet ≡ service.quiet)
+    × (s.exits_on_halt ≡ service.exit_on_halt)
 
 -- how many sessions there may be at a time, and how many of one address
 abbrev pub CountsAreAsked : Service → Settings → Type 0

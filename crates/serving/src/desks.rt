@@ -20,6 +20,7 @@ use rand_core::Rng;
 use session_pool::SessionPool;
 use std::alloc::Global;
 use std::mem::drop;
+use std::net::Net;
 use std::random::RandomSource;
 use std::sync::{Arc, Wait};
 use std::time::Clock;
@@ -77,7 +78,7 @@ fn serve_callers<'r, R, F, S, J>(
     desk: Desk<'r, R, F, S, J>,
 ) -> (Access<'r, R, F, S, J>, SystemEnvs<'r, R>)
 where
-    R: Clock + RandomSource + Wait,
+    R: Clock + Net + RandomSource + Wait,
     F: Filed,
     S: Store,
     J: Naming,
@@ -100,7 +101,7 @@ pub(crate) fn work_at<R, F, S, J>(
     desk: Desk<'_, R, F, S, J>,
 )
 where
-    R: Clock + RandomSource + Wait,
+    R: Clock + Net + RandomSource + Wait,
     F: Filed,
     S: Store,
     J: Naming,

@@ -26,7 +26,7 @@ use std::thread;
 use std::thread::Threads;
 use std::time::Clock;
 use store_access::Filed;
-use store_files::Store;
+use store_files::{Store, StoreFault};
 
 /// Takes connections at an entrance of a repository in files: for any repository, since at a named one the checker
 /// reaches its limit of steps.
@@ -36,12 +36,27 @@ fn take_at<'e, R, F, S, J>(
     callers: &Sender<Client<'e, R>>,
 )
 where
-    R: Clock + Wait,
+    R: Clock + Net + Wait,
     F: Filed,
     S: Store,
     J: Naming,
 {
     take_all(entrance, pool, callers)
+}
+
+/// Says why no more connections are taken, where that is a fault.
+fn ending_of<R, F, S, J>(
+    entrance: &Entrance<'_, R, SharedFiles<F, S, J>>,
+) -> Result<(), ServingFault>
+where
+    F: Filed,
+    S: Store,
+    J: Naming,
+{
+    if entrance.is_closing() {
+        return Err(ServingFault::Store(StoreFault::Halted));
+    }
+    Ok(())
 }
 
 /// The way of connections to the threads that serve them, and what is told as it opens.
@@ -53,7 +68,7 @@ struct Way<'a, 'e, R, O> {
 }
 
 /// Starts a thread for each desk, tells that all have started, and takes connections. It answers once no more are to be taken
-/// and all sessions have ended, or where a thread cannot be started.
+/// and all sessions have ended, by a fault where changes have come to a halt; or where a thread cannot be started.
 fn run_pool<'e, R, S, J, O>(
     server: &Server<'_, R>,
     entrance: &'e Entrance<'e, R, SharedFiles<FiledWorld, S, J>>,
@@ -62,7 +77,13 @@ fn run_pool<'e, R, S, J, O>(
     desks: Vec<Desk<'_, R, FiledWorld, S, J>>,
 ) -> Result<(), ServingFault>
 where
-    R: Clock + Eprint + RandomSource + Threads + Wait + Sync,
+    R: Net<Listener = TcpListener, Stream = TcpStream>
+        + Clock
+        + Eprint
+        + RandomSource
+        + Threads
+        + Wait
+        + Sync,
     S: Store + Send + Sync + 'static,
     J: Naming + Send + Sync + 'static,
     O: Opening,
@@ -94,7 +115,7 @@ where
             }
             opening.tell(&entrance.registry)?;
             take_at(entrance, pool, &sender);
-            Ok(())
+            ending_of(entrance)
         },
     )
 }
@@ -107,7 +128,13 @@ fn serve_desks<'e, R, S, J, O>(
     desks: Vec<Desk<'_, R, FiledWorld, S, J>>,
 ) -> Result<(), ServingFault>
 where
-    R: Clock + Eprint + RandomSource + Threads + Wait + Sync,
+    R: Net<Listener = TcpListener, Stream = TcpStream>
+        + Clock
+        + Eprint
+        + RandomSource
+        + Threads
+        + Wait
+        + Sync,
     S: Store + Send + Sync + 'static,
     J: Naming + Send + Sync + 'static,
     O: Opening,
@@ -146,7 +173,13 @@ pub fn serve_connections<R, S, J>(
     desks: Desks<'_, R, FiledWorld, S, J>,
 ) -> Result<(), ServingFault>
 where
-    R: Clock + Eprint + RandomSource + Threads + Wait + Sync,
+    R: Net<Listener = TcpListener, Stream = TcpStream>
+        + Clock
+        + Eprint
+        + RandomSource
+        + Threads
+        + Wait
+        + Sync,
     S: Store + Send + Sync + 'static,
     J: Naming + Send + Sync + 'static,
     requires { All (λ d. AreSound (content_of (point_of d.seat)).revisions) desks.1.items }
@@ -177,7 +210,13 @@ fn serve_told<R, S, J, O>(
     desks: Desks<'_, R, FiledWorld, S, J>,
 ) -> Result<(), ServingFault>
 where
-    R: Clock + Eprint + RandomSource + Threads + Wait + Sync,
+    R: Net<Listener = TcpListener, Stream = TcpStream>
+        + Clock
+        + Eprint
+        + RandomSource
+        + Threads
+        + Wait
+        + Sync,
     S: Store + Send + Sync + 'static,
     J: Naming + Send + Sync + 'static,
     O: Opening,
@@ -190,14 +229,21 @@ where
         connections,
         opening,
     } = arrivals;
+    let exits_on_halt = server.settings.exits_on_halt;
+    let wakes_at = if exits_on_halt {
+        listener.local_addr().ok()
+    } else {
+        None
+    };
     let entrance = Entrance {
         rt,
         alloc,
         listener,
         connections,
         per_address: server.settings.per_address,
-        registry: Registry::new(rt, alloc, journal, server.settings.sessions),
+        registry: Registry::new(rt, alloc, journal, server.settings.sessions, wakes_at),
         repository,
+        exits_on_halt,
     };
     tell_of_users(server.settings, &entrance.registry);
     serve_desks(server, &entrance, opening, desks)
@@ -210,7 +256,13 @@ fn serve_arrivals<R, S, J, O>(
     desks: Desks<'_, R, FiledWorld, S, J>,
 ) -> Result<(), ServingFault>
 where
-    R: Clock + Eprint + RandomSource + Threads + Wait + Sync,
+    R: Net<Listener = TcpListener, Stream = TcpStream>
+        + Clock
+        + Eprint
+        + RandomSource
+        + Threads
+        + Wait
+        + Sync,
     S: Store + Send + Sync + 'static,
     J: Naming + Send + Sync + 'static,
     O: Opening,
@@ -248,7 +300,7 @@ where
 }
 
 /// Serves sessions over TCP at the desks of a repository. It prints `ready` once it listens and all threads have
-/// started, and answers only where that or a thread fails.
+/// started, and answers only where that or a thread fails, or changes have come to a halt and it is to end then.
 pub fn serve<R, S, J>(
     server: &Server<'_, R>,
     desks: Desks<'_, R, FiledWorld, S, J>,

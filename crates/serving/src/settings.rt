@@ -18,8 +18,8 @@ use std::os::unix::fs::PermissionsExt;
 use std::rt::Runtime;
 
 /// What sessions are served by: the options of the repository, where to listen, how many sessions there may be at a time, and
-/// how many of them one address may have, whether others can read the file of users, whether they can write it, and whether
-/// nothing is told on standard error.
+/// how many of them one address may have, whether others can read the file of users, whether they can write it, whether
+/// nothing is told on standard error, and whether the server ends once changes have come to a halt.
 #[derive(Drop)]
 pub struct Settings {
     pub options: Options,
@@ -29,6 +29,7 @@ pub struct Settings {
     pub is_exposed: bool,
     pub is_writable: bool,
     pub is_quiet: bool,
+    pub exits_on_halt: bool,
 }
 
 /// What serves sessions: who hands the system in, where memory comes from, and what sessions are served by.
@@ -121,5 +122,6 @@ pub fn read_settings<R: Runtime>(
         is_exposed: mode & OTHERS_READ != 0,
         is_writable: mode & OTHERS_WRITE != 0,
         is_quiet: service.quiet,
+        exits_on_halt: service.exit_on_halt,
     })
 }

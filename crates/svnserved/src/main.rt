@@ -5,6 +5,7 @@ ghost use Rattle.std.specs.Prelude.{◌≡◌, IfOk, None};
 ghost use Rattle.serving.specs.Asked.{CountsAreAsked, OptionsAreAsked};
 
 mod asking;
+mod beside;
 mod fault;
 mod migrating;
 mod repositories;

@@ -1,7 +1,9 @@
 //! A repository copied into another format.
 
+use crate::beside::make_beside;
 use crate::fault::ProgramFault;
 use crate::repositories::{DiskStore, files_folder};
+use command_line::NewFormat;
 use filed_opening::{copy_repository, judged};
 use fsfs_lines::FileFault;
 use repostore::Progress;
@@ -61,6 +63,7 @@ fn copy_into(
     let folder = files_folder(rt.alloc(), new)?;
     let mut store: DiskStore = FolderStore::make(*rt, folder).map_err(ProgramFault::NewFolder)?;
     filed_opening::check_free(rt.alloc(), &mut store).map_err(ProgramFault::NewStore)?;
+    make_beside(rt, new, NewFormat::Three).map_err(ProgramFault::NewFolder)?;
     let mut telling = Telling {
         rt,
         is_read: !quiet && rt.stderr().is_terminal(),

@@ -5,9 +5,10 @@ ghost use Rattle.store_access.specs.Stored.{IsOpened};
 ghost use Rattle.filed_world.specs.Files.{filed_content};
 ghost use Rattle.folder_hub.specs.Opening.{IsFoundIn};
 
+use crate::beside::make_beside;
 use crate::fault::ProgramFault;
 use command_line::NewFormat;
-use filed_opening::{FolderRepository, create, open};
+use filed_opening::{FolderRepository, check_free, create, open};
 use folder_hub::{FolderHub, hub_over};
 use hub::Options;
 use rand::rngs::StdRng;
@@ -38,7 +39,8 @@ fn new_uuid(rt: &HostRuntime) -> Result<u128, ProgramFault> {
     Ok(Uuid::new_v4(&mut words).as_u128())
 }
 
-/// Makes an empty repository of a format in a folder, which is made where it is missing.
+/// Makes an empty repository of a format in a folder, which is made where it is missing, and before it what Subversion's tools
+/// look for beside its files.
 pub fn create_in_folder(
     rt: &HostRuntime,
     folder: &str,
@@ -46,6 +48,8 @@ pub fn create_in_folder(
 ) -> Result<(), ProgramFault> {
     let uuid = new_uuid(rt)?;
     let mut store: DiskStore = FolderStore::make(*rt, files_folder(rt.alloc(), folder)?)?;
+    check_free(rt.alloc(), &mut store)?;
+    make_beside(rt, folder, format)?;
     create(
         rt.alloc(),
         &mut store,

@@ -32,10 +32,11 @@ fn served(rt: &impl Abort, alloc: Global, service: &Service) -> String {
         per_address,
         revprops,
         quiet,
+        exit_on_halt,
     } = service;
     let location = located(location);
     let text = format!(in alloc;
-        "serve {location} {listen} {name} {users} {sessions} {per_address} {revprops} {quiet}"
+        "serve {location} {listen} {name} {users} {sessions} {per_address} {revprops} {quiet} {exit_on_halt}"
     );
     text.expect(rt, "memory")
 }
@@ -85,7 +86,7 @@ fn is_asked(rt: &impl Abort, alloc: Global, line: &str, wanted: &str) -> bool {
     is_order(rt, alloc, &read(rt, alloc, line), wanted)
 }
 
-static LINES: [(&str, &str); 24] = [
+static LINES: [(&str, &str); 25] = [
     ("svnserved stdio - --name r", "stdio in memory r false"),
     ("svnserved stdio --name=r -", "stdio in memory r false"),
     (
@@ -107,27 +108,31 @@ static LINES: [(&str, &str); 24] = [
     ),
     (
         "svnserved serve - --listen 127.0.0.1:3690 --name r --users file",
-        "serve in memory 127.0.0.1:3690 r file 16 16 false false",
+        "serve in memory 127.0.0.1:3690 r file 16 16 false false false",
     ),
     (
         "svnserved serve --quiet --users=file --revprops --name=r --listen=0.0.0.0:1 folder",
-        "serve folder 0.0.0.0:1 r file 16 16 true true",
+        "serve folder 0.0.0.0:1 r file 16 16 true true false",
+    ),
+    (
+        "svnserved serve folder --exit-on-halt --listen 127.0.0.1:1 --name r --users file",
+        "serve folder 127.0.0.1:1 r file 16 16 false false true",
     ),
     (
         "svnserved serve - --listen 127.0.0.1:1 --per-address 4 --name r --users file",
-        "serve in memory 127.0.0.1:1 r file 16 4 false false",
+        "serve in memory 127.0.0.1:1 r file 16 4 false false false",
     ),
     (
         "svnserved serve - --listen 127.0.0.1:1 --sessions 40 --name r --users file",
-        "serve in memory 127.0.0.1:1 r file 40 40 false false",
+        "serve in memory 127.0.0.1:1 r file 40 40 false false false",
     ),
     (
         "svnserved serve - --listen 127.0.0.1:1 --per-address 1024 --sessions=1024 --name r --users file",
-        "serve in memory 127.0.0.1:1 r file 1024 1024 false false",
+        "serve in memory 127.0.0.1:1 r file 1024 1024 false false false",
     ),
     (
         "svnserved serve - --listen 127.0.0.1:1 --sessions 1 --per-address 1 --name r --users file",
-        "serve in memory 127.0.0.1:1 r file 1 1 false false",
+        "serve in memory 127.0.0.1:1 r file 1 1 false false false",
     ),
     (
         "svnserved status [::1]:3690 --name r",

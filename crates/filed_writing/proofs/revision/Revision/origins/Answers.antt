@@ -1,9 +1,19 @@
-use Rattle.std.proofs.Common.{◌≡◌, ◌++◌, ◌∷◌, [], List, Some, None, map, length, ap, sym, rules, ◌∙◌}
+use Rattle.std.proofs.Common.{◌≡◌, ◌++◌, ◌∷◌, [], List, Some, None, map, length, ap, sym, arith, rules, ◌∙◌}
 use Rattle.std.proofs.lemmas.List.{append-nil}
 use Rattle.noderevs.specs.declared.node_rev.NodeRev.{NodeRev}
 use Rattle.filed_writing.specs.{Drafts.comes_of, Layout.{all_come, next_after_all, node_here}}
-use Rattle.filed_writing.proofs.Places.{one_comes, one_later, past_all}
+use Rattle.filed_writing.proofs.Places.{left, one_comes, one_later, past_all}
 use Rattle.filed_writing.proofs.revision.Revision.origins.Goals as goal
+
+pub made_from-requires-clause-trail : goal.made_from-requires-clause-trail
+made_from-requires-clause-trail c = c.loop-node.invariant.2
+
+pub loop-node-smaller : goal.loop-node-smaller
+loop-node-smaller c =
+    let r = c.args.self in
+    let origins = c.loop-node.origins.items in
+    let there : node_here r (length origins) ≡ Some c.in-Some.node.now = search rules in
+    omega (arith, left r origins c.push.new.self.items c.origin.result c.in-Some.node.now there c.in_ok-push.ensures.items)
 
 pub loop-node-preserved : goal.loop-node-preserved
 loop-node-preserved c =
@@ -18,6 +28,7 @@ loop-node-preserved c =
     let grown : now ≡ origins ++ o ∷ [] = c.in_ok-push.ensures.items in (
       one_comes r origins now o node next after there grown c.origin.ensures.next c.origin.ensures.comes ∙ c.loop-node.invariant.0,
       one_later r origins now o node next after there grown c.origin.ensures.next ∙ c.loop-node.invariant.1,
+      c.made_from.ensures.trail,
     )
 
 pub returns-clause-all : goal.returns-clause-all
