@@ -25,6 +25,11 @@ FREE_AT_LAST = 60
 LONGEST, LONGEST_OF_OTHERS = 600, 60
 
 
+# What `./svnserved` and the unit of the package tell the C library: threads share what others have given back, and what is large
+# goes back to the system.
+ALLOCATOR = {"MALLOC_ARENA_MAX": "1", "MALLOC_MMAP_THRESHOLD_": "1048576"}
+
+
 class Kind(NamedTuple):
     """What a row is: what it does, and what its server and those beside it are."""
 
@@ -32,9 +37,8 @@ class Kind(NamedTuple):
     # how many bytes of addresses the server has, and its further options
     address_space: int | None = None
     options: tuple = ()
-    # whether standard error is read, and whether sessions share what others have given back (`MALLOC_ARENA_MAX=1`)
+    # whether standard error is read
     is_read: bool = True
-    is_shared: bool = False
     # whether a client commits beside it, and whether it is a fault where that waits for longer than it may
     has_commits: bool = True
     judges_commits: bool = True
@@ -59,10 +63,10 @@ class Row:
     def started(self, room):
         """Starts its server."""
         if self.is_other:
+            for name in ALLOCATOR:
+                os.environ.pop(name, None)
             return OtherServer(room)
-        os.environ.pop("MALLOC_ARENA_MAX", None)
-        if self.kind.is_shared:
-            os.environ["MALLOC_ARENA_MAX"] = "1"
+        os.environ.update(ALLOCATOR)
         places = ["--sessions", str(PLACES + 2)] if self.kind.has_commits else []
         words = [*places, *self.kind.options]
         return Server(self.options.program, room, self.kind.address_space, is_read=self.kind.is_read, options=words)

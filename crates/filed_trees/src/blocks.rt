@@ -95,6 +95,16 @@ fn none_like(
     }
 }
 
+/// Gives a path, and shares that of the predecessor if it is the same.
+fn path_like(path: Path, earlier: Option<Earlier<'_>>) -> Result<Path, AllocError>
+    ensures { IfOk result (λ shared. shared ≡ path) }
+{
+    match earlier {
+        Some(earlier) => path.like(&earlier.node.path),
+        None => Ok(path),
+    }
+}
+
 impl Reading<'_> {
     /// Says which revision is read.
     fn revision(self) -> u32
@@ -214,8 +224,13 @@ impl Reading<'_> {
         }
     }
 
-    /// Shares the path of the change at a path, if there is one, and says whether there is.
-    fn shared_path(self, path: Path) -> Result<(Path, bool), AllocError>
+    /// Shares the path of the change at a path, if there is one, and says whether there is. Else that of the predecessor
+    /// is shared, if it is the same.
+    fn shared_path(
+        self,
+        path: Path,
+        earlier: Option<Earlier<'_>>,
+    ) -> Result<(Path, bool), AllocError>
         requires { IsStrictlySortedBy path_cmp (keys_of self.changes.now) }
         ensures path { IfOk result (λ shared. shared.0 ≡ path) }
         ensures changed { IfOk result (λ shared. shared.1
@@ -223,7 +238,7 @@ impl Reading<'_> {
     {
         match change_at(self.changes, &path) {
             Some(change) => Ok((change.0.clone()?, true)),
-            None => Ok((path, false)),
+            None => Ok((path_like(path, earlier)?, false)),
         }
     }
 
@@ -240,8 +255,8 @@ impl Reading<'_> {
             node.kids node.height) }
     {
         let read = read_path(self.alloc, &piece.node.path)?;
-        let (path, is_changed) = self.shared_path(read)?;
         let earlier = find_earlier(self.places, piece.node.predecessor)?;
+        let (path, is_changed) = self.shared_path(read, earlier)?;
         let own = self.own(&path, is_changed, earlier)?;
         let properties = self.properties(piece, earlier)?;
         let (content, kids) = self.content(piece, earlier)?;

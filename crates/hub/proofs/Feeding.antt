@@ -11,7 +11,7 @@ use Rattle.hub_runs.specs.SessionLaws.{kept-updated, session_of-updated, session
 use Rattle.hub_runs.specs.State.{AllOpen, Finds, HasTrees, hub_at, HubState, kept, session_of, updated, without}
 use Rattle.hub.proofs.Places.{without-kept, settled, kept_ended}
 use Rattle.hub.proofs.Composing.{StandsAlone, AddsOwn, holds_open, holds_kept, events_of, inputs_are, composed, ends, runs_on}
-use Rattle.hub_runs.proofs.{Everywhere.{AllOpen-at, AllOpen-kept, HasTrees-at, HasTrees-kept}, Staying.{feeds_keep, breaks_keep}}
+use Rattle.hub_runs.proofs.Everywhere.{AllOpen-at, AllOpen-kept, HasTrees-at, HasTrees-kept}
 
 if_open : (xs : List (ℕ × SessionState)) (n : ℕ) (session s' : SessionState) (rest : List ℕ) → session_of xs n ≡ Some session
     → (is_open s'.phase ≡ true → HasNoMore rest) → IfOpen (session_of (kept xs n s') n) rest
@@ -119,9 +119,6 @@ module _ (rules : AccessRules) (s : Settings) (alone : StandsAlone rules) (count
   fed_feeds is fed =
       (print fed.told, subst (λ (h : HubState). Feeds h f.env f.number f.piece (print fed.told) (hub_after s f)) is.view (feeds_here is fed), fed.written)
 
-  pub fed_later : IsFed s old f → Written → IsBeginning (content_of f.at).revisions (content_of f.at_after).revisions
-  fed_later is fed = feeds_keep (hub_before s f) f.env f.number f.piece (print fed.told) (hub_after s f) (feeds_here is fed)
-
   breaks_here : IsFed s old f → is_open f.session_after.phase ≡ false → Lost → BreaksOff (hub_before s f) f.env f.number f.piece (hub_after s f) writes
   breaks_here is ended lost =
       let xs = f.sessions in
@@ -157,9 +154,6 @@ module _ (rules : AccessRules) (s : Settings) (alone : StandsAlone rules) (count
   pub lost_breaks : IsFed s old f → is_open f.session_after.phase ≡ false → Lost → BreaksOff old f.env f.number f.piece (hub_after s f) writes
   lost_breaks is ended lost =
       subst (λ (h : HubState). BreaksOff h f.env f.number f.piece (hub_after s f) writes) is.view (breaks_here is ended lost)
-
-  pub lost_later : IsFed s old f → is_open f.session_after.phase ≡ false → Lost → IsBeginning (content_of f.at).revisions (content_of f.at_after).revisions
-  lost_later is ended lost = breaks_keep (hub_before s f) f.env f.number f.piece (hub_after s f) (breaks_here is ended lost).breaks
 
 -- what holds of the hub and its sessions holds on
 pub fed_holds : (s : Settings) (old : HubState) (f : Feed) → IsFed s old f

@@ -233,11 +233,12 @@ impl<A: SoleAccess> Hub<A> {
         turn: &mut Turn<S>,
     ) -> Result<(), AllocError>
         requires found { Finds self.old.sessions number i }
-        requires held { (out : S) → S.is_honest out }
-        ensures ok { OnOk result ((told : List ℕ)
+        ensures known { S.is_honest turn.new.out → S.is_honest turn.old.out }
+        ensures ok { S.is_honest turn.new.out → OnOk result ((told : List ℕ)
             × Feeds self.old turn.old.env number piece.now told self.new
             × S.writes turn.old.out turn.new.out told) }
-        ensures err { OnErr result (BreaksOff self.old turn.old.env number piece.now self.new
+        ensures err { S.is_honest turn.new.out
+            → OnErr result (BreaksOff self.old turn.old.env number piece.now self.new
             (S.writes turn.old.out turn.new.out)) }
     {
         let entry = &mut self.sessions[i];
@@ -268,16 +269,17 @@ impl<A: SoleAccess> Hub<A> {
     }
 
     /// Feeds a piece of what a client sends to its session, and writes what it is answered as it is made. Where the
-    /// sink fails, the session has ended as for want of memory, and the sink has its own fault. It reads of each text
-    /// what is known of it.
+    /// sink fails, the session has ended as for want of memory, and the sink has its own fault. So it is where each text
+    /// that was read is the one that is known; whatever was read, the sessions stand on what exists.
     pub fn feed_to<S: ReplySink>(
         &mut self,
         number: SessionId,
         piece: &[u8],
         turn: &mut Turn<S>,
     ) -> Result<(), HubFault>
-        requires held { (out : S) → S.is_honest out }
-        ensures { FedTo result self.old turn.old.env number piece.now self.new
+        ensures known { S.is_honest turn.new.out → S.is_honest turn.old.out }
+        ensures fed { S.is_honest turn.new.out
+            → FedTo result self.old turn.old.env number piece.now self.new
             (S.writes turn.old.out turn.new.out) }
     {
         if self.access.is_halted() {

@@ -99,8 +99,8 @@ fn read_word(alloc: Global, bytes: &[u8]) -> Result<(Item, &[u8]), AllocError>
 {
     let rest = &bytes[1..];
     let len = count_word(rest);
-    let word = Vec::from_slice(alloc, &bytes[..len + 1])?;
-    Ok((Item::Word(Name::from_vec(word)), behind_space(&rest[len..])))
+    let name = Name::from_slice(alloc, &bytes[..len + 1])?;
+    Ok((Item::Word(name), behind_space(&rest[len..])))
 }
 
 #[tactic(auto, using(crate::proofs::Turns::spaces_on, crate::proofs::Turns::spaces_stop, crate::proofs::Turns::spaces_end))]

@@ -1,13 +1,14 @@
 // What an item is.
-ghost use Rattle.std.specs.Prelude.{◌≡◌};
+ghost use Rattle.std.specs.Prelude.{◌≡◌, IfOk};
 ghost use Rattle.items.specs.Word.{IsWord};
 
 use byte_string::ByteString;
+use std::alloc::{AllocError, Global};
 use std::marker::Model;
 
 /// A word: a letter, then letters, digits and dashes.
 pub struct Name {
-    bytes: Vec<u8>,
+    bytes: ByteString,
 }
 
 impl Drop for Name {
@@ -22,18 +23,24 @@ impl Model for Name {
 
     ghost Value = { List ℕ };
 
-    ghost view = { λ n. n.bytes.items };
+    ghost view = { λ n. n.bytes };
 
-    ghost invariant = { λ n. IsWord n.bytes.items };
+    ghost invariant = { λ n. IsWord n.bytes };
 }
 
 impl Name {
     /// Makes the word of these bytes, which the caller knows to be one.
-    pub fn from_vec(bytes: Vec<u8>) -> Name
-        requires { IsWord bytes.items }
-        ensures { result ≡ bytes.items }
+    ///
+    /// # Errors
+    ///
+    /// `AllocError` where there is no memory for them.
+    pub fn from_slice(alloc: Global, bytes: &[u8]) -> Result<Name, AllocError>
+        requires { IsWord bytes.now }
+        ensures { IfOk result (λ name. name ≡ bytes.now) }
     {
-        Name { bytes }
+        Ok(Name {
+            bytes: ByteString::from_slice(alloc, bytes)?,
+        })
     }
 
     /// Gives the bytes of the word, one of them at least.

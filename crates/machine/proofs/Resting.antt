@@ -24,7 +24,7 @@ use Rattle.machine.proofs.Quiet.{HasNewEdit, IsQuiet, quiet_input}
 
 -- ---- beginnings
 
-begins : (xs : List Revision) → IsBeginning xs xs
+pub begins : (xs : List Revision) → IsBeginning xs xs
 begins xs = record { more = []; is = sym (append-nil xs) }
 
 pub beginning_trans : (a b c : List Revision) → IsBeginning a b → IsBeginning b c → IsBeginning a c
@@ -207,6 +207,12 @@ module _ (rules : AccessRules)
   pub moved : (p : Point) (e : Effect) (q : Point) → EffectAt rules p e q → content_of q ≡ content_after (content_of p) e
   moved p e q (mid, adds, stores) = stored e.store mid q stores ∙ added p e.changes mid adds
 
+  -- what exists stays
+  pub grown : (step : Step) (p q : Point) (a : Answer) → StepAt rules step p a q → IsBeginning (content_of p).revisions (content_of q).revisions
+  grown step p q a h =
+      beginning_trans (content_of p).revisions (content_of h.at).revisions (content_of q).revisions (keeps p h.at h.later)
+      (subst (λ (c : RepoState). IsBeginning (content_of h.at).revisions c.revisions) (sym (moved h.at a.effect q h.moves)) (changes_keep (content_of h.at) a.effect.changes))
+
   -- a session goes on to rest on what is there, as others go on too
   module _ (sound : (p q : Point) → rules.between p q → AreSound (content_of p).revisions → AreSound (content_of q).revisions) where
     rests_later : (phase : Stage) (p q : Point) → rules.between p q → StandsOn phase (content_of p) → StandsOn phase (content_of q)
@@ -217,37 +223,12 @@ module _ (rules : AccessRules)
     }
 
     -- after a step that keeps what a session stands on
-    stands_after : (step : Step) (p q : Point) (phase : Stage) (a : Answer)
+    pub stands_after : (step : Step) (p q : Point) (phase : Stage) (a : Answer)
         → ((at : Point) → StandsOn phase (content_of at) → step at.halted (content_of at) a → StandsOn a.phase (content_after (content_of at) a.effect))
         → StepAt rules step p a q → StandsOn phase (content_of p) → StandsOn a.phase (content_of q)
     stands_after step p q phase a keeps_it h rests =
         let here = keeps_it h.at (rests_later phase p h.at h.later rests) h.step_is in
         subst (λ (c : RepoState). StandsOn a.phase c) (sym (moved h.at a.effect q h.moves)) here
-
-    module _ (step_keeps : (halted : Bool) (s : Settings) (env : Env) (c : RepoState) (phase : Stage) (input : Input) (a : Answer)
-        → StandsOn phase c → InputStep s env phase input halted c a → StandsOn a.phase (content_after c a.effect) × MeetBy c a.effect.changes) where
-      rests_after : (s : Settings) (env : Env) (p q : Point) (phase : Stage) (input : Input) (a : Answer)
-          → StepAt rules (InputStep s env phase input) p a q → StandsOn phase (content_of p) → StandsOn a.phase (content_of q)
-      rests_after s env p q phase input a =
-          stands_after (InputStep s env phase input) p q phase a
-          (λ at h is. (step_keeps at.halted s env (content_of at) phase input a h is).0)
-
-      pub rests_served : (s : Settings) (env env' : Env) (p q : Point) (phase after : Stage) (input : Input) (writes : List ℕ → Type 0)
-          → StepWritten rules (InputStep s env phase input) p q after env' writes → StandsOn phase (content_of p) → StandsOn after (content_of q)
-      rests_served s env env' p q phase after input writes h rests =
-          subst (λ (x : Stage). StandsOn x (content_of q)) (sym h.phase_after) (rests_after s env p q phase input h.answer h.happens rests)
-
-      -- for want of memory the session has ended, and the repository is sound
-      pub trees_failed : ((halted : Bool) (env : Env) (c : RepoState) (phase : Stage) (input : Input) (a : Answer)
-          → StandsOn phase c → UnreleasedStep env phase input halted c a → StandsOn a.phase (content_after c a.effect) × MeetBy c a.effect.changes)
-          → (s : Settings) (env : Env) (p q : Point) (phase : Stage) (input : Input) (writes : List ℕ → Type 0)
-          → StepOrPart rules (InputStep s env phase input) (UnreleasedStep env phase input) p q writes
-          → StandsOn phase (content_of p) → AreSound (content_of q).revisions
-      trees_failed part_keeps s env p q phase input writes (inl (inl (later, unwritten))) rests = sound p q later rests.trees
-      trees_failed part_keeps s env p q phase input writes (inl (inr (a, serves, part))) rests = (rests_after s env p q phase input a serves rests).trees
-      trees_failed part_keeps s env p q phase input writes (inr (a, happens, unwritten)) rests =
-          (stands_after (UnreleasedStep env phase input) p q phase a
-          (λ at h is. (part_keeps at.halted env (content_of at) phase input a h is).0) happens rests).trees
 
 pub edit_rests_later : (rules : AccessRules) → ((p q : Point) → rules.between p q → IsBeginning (content_of p).revisions (content_of q).revisions)
     → (e : EditState) (p q : Point) → RestsOn e (content_of p) → rules.between p q → RestsOn e (content_of q)

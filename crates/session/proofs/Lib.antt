@@ -1,3 +1,4 @@
 pub mod Answered
 pub mod Follows
+pub mod Known
 pub mod Runs

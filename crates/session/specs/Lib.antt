@@ -1,2 +1,3 @@
 pub mod Awaiting
+pub mod Knowing
 pub mod Taking

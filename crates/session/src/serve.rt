@@ -2,9 +2,9 @@
 ghost use Rattle.std.specs.Prelude.{[], if◌then◌else◌};
 ghost use Rattle.items.specs.View.{value_of};
 ghost use Rattle.access.specs.Points.{content_of};
-ghost use Rattle.machine.specs.{Answers.{malformed, says}, Hearing.Input.Whole, Machine.{InputStep, UnreleasedStep}, Stages.{is_open, StandsOn}};
+ghost use Rattle.machine.specs.{Answers.{malformed, says}, Hearing.Input.Whole, Machine.UnreleasedStep, Stages.{is_open, StandsOn}};
 ghost use Rattle.machine.specs.Steps.{Answered, SteppedInPart};
-ghost use Rattle.session.specs.Taking.{input_of};
+ghost use Rattle.session.specs.{Knowing.StepIfKnown, Taking.input_of};
 
 use crate::greeting::greeting_item;
 use crate::incoming::Incoming;
@@ -20,7 +20,7 @@ use std::alloc::AllocError;
 use std::mem::drop;
 use wire_replies::ReplySink;
 
-/// Serves an item.
+/// Serves an item. What it makes of a text delta rests on what was read of the text.
 fn serve_item<R: Repository, A: RepoAccess<View = R>, S: ReplySink>(
     options: &Options,
     phase: SessionPhase<R>,
@@ -29,9 +29,8 @@ fn serve_item<R: Repository, A: RepoAccess<View = R>, S: ReplySink>(
     turn: &mut Turn<S>,
 ) -> Result<SessionPhase<R>, AllocError>
     requires rests { StandsOn phase (content_of (A.point access.old)) }
-    requires held { (out : S) → S.is_honest out }
     ensures { SteppedInPart result S.writes turn.old turn.new A.rules A.point access.old access.new
-        (InputStep options.now turn.old.env phase (Whole (value_of item.now)))
+        (StepIfKnown (S.is_honest turn.new.out) options.now turn.old.env phase (Whole (value_of item.now)))
         (UnreleasedStep turn.old.env phase (Whole (value_of item.now))) }
 {
     match phase {
@@ -64,7 +63,8 @@ fn serve_broken<R: Repository, S: ReplySink>(
     }
 }
 
-/// Serves one input: an `Err` means that memory has run out, or comes from the sink.
+/// Serves one input: an `Err` means that memory has run out, or comes from the sink. What it makes of a text delta rests
+/// on what was read of the text.
 pub fn serve<R: Repository, A: RepoAccess<View = R>, S: ReplySink>(
     options: &Options,
     phase: SessionPhase<R>,
@@ -73,9 +73,8 @@ pub fn serve<R: Repository, A: RepoAccess<View = R>, S: ReplySink>(
     turn: &mut Turn<S>,
 ) -> Result<SessionPhase<R>, AllocError>
     requires rests { StandsOn phase (content_of (A.point access.old)) }
-    requires held { (out : S) → S.is_honest out }
     ensures { SteppedInPart result S.writes turn.old turn.new A.rules A.point access.old access.new
-        (InputStep options.now turn.old.env phase (input_of incoming))
+        (StepIfKnown (S.is_honest turn.new.out) options.now turn.old.env phase (input_of incoming))
         (UnreleasedStep turn.old.env phase (input_of incoming)) }
 {
     match incoming {

@@ -1,7 +1,7 @@
 //! A session with one client.
 ghost use Rattle.std.specs.Prelude.{◌≡◌, ◌++◌, [], length, true, false, IfOk, OnOk, OnErr, IsErrOf, option_copied};
 ghost use Rattle.items.specs.Counting.{CountsItems};
-ghost use Rattle.repo_api.specs.Soundness.{AreSound};
+ghost use Rattle.repo_api.specs.{Soundness.AreSound, States.IsBeginning};
 ghost use Rattle.access.specs.Points.{content_of};
 ghost use Rattle.machine.specs.{Stages.{is_open, StandsOn, user_in}, Steps.{FeedLost, FeedWritten}};
 ghost use Rattle.session.specs.Awaiting.{awaited};
@@ -42,15 +42,16 @@ fn serve_all<R: Repository, A: RepoAccess<View = R>, S: ReplySink>(
     turn: &mut Turn<S>,
 ) -> Result<SessionPhase<R>, AllocError>
     requires rests { StandsOn phase (content_of (A.point access.old)) }
-    requires held { (out : S) → S.is_honest out }
-    ensures ok { IfOk result (λ after. FeedWritten A.rules options.now turn.old.env
+    ensures known { S.is_honest turn.new.out → S.is_honest turn.old.out }
+    ensures ok { S.is_honest turn.new.out → IfOk result (λ after. FeedWritten A.rules options.now turn.old.env
         (A.point access.old) phase reader.old.rest reader.new.rest
         (A.point access.new) after (S.writes turn.old.out turn.new.out)) }
-    ensures err { OnErr result (FeedLost A.rules options.now turn.old.env
+    ensures err { S.is_honest turn.new.out → OnErr result (FeedLost A.rules options.now turn.old.env
         (A.point access.old) phase reader.old.rest
         (A.point access.new) (S.writes turn.old.out turn.new.out)) }
     ensures rests { IfOk result (λ after. StandsOn after (content_of (A.point access.new))) }
     ensures trees { OnErr result (AreSound (content_of (A.point access.new)).revisions) }
+    ensures stays { IsBeginning (content_of (A.point access.old)).revisions (content_of (A.point access.new)).revisions }
 {
     steps_keep_trees();
     let mut phase = phase;
@@ -160,8 +161,8 @@ impl<R: Repository> Session<R> {
         }
     }
 
-    /// Takes the next piece of what the client sends, and writes what it is answered as it is made. The sink reads of each
-    /// text what is known of it.
+    /// Takes the next piece of what the client sends, and writes what it is answered as it is made: as the machine says,
+    /// where each text that was read is the one that is known. Whatever was read, the session stands on what exists.
     /// After an `Err` the session has ended, and a part of the replies to what was served was
     /// written. The last that was served may be a commit for whose release memory was refused.
     pub fn feed<A: RepoAccess<View = R>, S: ReplySink>(
@@ -172,20 +173,21 @@ impl<R: Repository> Session<R> {
         turn: &mut Turn<S>,
     ) -> Result<(), SessionFault>
         requires rests { StandsOn self.old.phase (content_of (A.point access.old)) }
-        requires held { (out : S) → S.is_honest out }
-        ensures ok { OnOk result (FeedWritten A.rules options.now turn.old.env
+        ensures known { S.is_honest turn.new.out → S.is_honest turn.old.out }
+        ensures ok { S.is_honest turn.new.out → OnOk result (FeedWritten A.rules options.now turn.old.env
             (A.point access.old) self.old.phase (self.old.rest ++ piece.now) self.new.rest
             (A.point access.new) self.new.phase (S.writes turn.old.out turn.new.out)) }
         ensures was_open { OnOk result (is_open self.old.phase ≡ true) }
         ensures ended { IsErrOf result SessionFault.Ended → is_open self.old.phase ≡ false }
         ensures silent { OnErr result (is_open self.old.phase ≡ false
             → S.writes turn.old.out turn.new.out []) }
-        ensures lost { OnErr result (is_open self.old.phase ≡ true
+        ensures lost { S.is_honest turn.new.out → OnErr result (is_open self.old.phase ≡ true
             → FeedLost A.rules options.now turn.old.env
             (A.point access.old) self.old.phase (self.old.rest ++ piece.now)
             (A.point access.new) (S.writes turn.old.out turn.new.out)) }
         ensures err { OnErr result (is_open self.new.phase ≡ false) }
         ensures rests { StandsOn self.new.phase (content_of (A.point access.new)) }
+        ensures stays { IsBeginning (content_of (A.point access.old)).revisions (content_of (A.point access.new)).revisions }
     {
         if !self.is_open() {
             return Err(SessionFault::Ended);

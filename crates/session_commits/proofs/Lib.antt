@@ -1,3 +1,2 @@
 pub mod Gathered
 pub mod Edits
-pub mod Known

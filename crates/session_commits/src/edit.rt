@@ -7,7 +7,7 @@ ghost use Rattle.wire_edits.specs.Editing.{editor_command};
 ghost use Rattle.edit_rules.specs.{Editor.{finished, RestsOn}, Edits.new_edit, Soundness.IsSoundEdit};
 ghost use Rattle.access.specs.Points.{content_of};
 ghost use Rattle.machine.specs.{Answers.says, Commands.{asked_by, commit_begins, lock_tokens}};
-ghost use Rattle.machine.specs.{Machine.{CloseStep, commit_ask, EditingStep, UnreleasedClose, UnreleasedEnd}, Stages.StandsOn};
+ghost use Rattle.machine.specs.{Machine.{CloseStep, commit_ask, EditingStep, UnreleasedClose, UnreleasedEnd}};
 ghost use Rattle.machine.specs.Steps.{Answered, AnsweredIfAny, SteppedInPart};
 ghost use Rattle.wire_replies.specs.{Made.Makes, Sinks.Says};
 ghost use Rattle.session_commits.specs.Telling.{tells_made, commit_answer};
@@ -19,9 +19,7 @@ use commands::CommitCommand;
 use dates::date_bytes;
 use editor::CommitEditor;
 use items::Item;
-use machine::{
-    Client, CommitParameters, Ending, OpenEdit, Options, Phase, Turn, ending_of, steps_keep_trees,
-};
+use machine::{Client, CommitParameters, Ending, OpenEdit, Options, Phase, Turn, ending_of};
 use refusals::{NotDone, Refusal};
 use repo_api::{CommitAsk, Repository};
 use session_edits::{apply_command, give_up};
@@ -335,7 +333,7 @@ fn edit_command<R: Repository, A: RepoAccess<View = R>, S: ReplySink>(
 }
 
 /// Takes an item within an edit. What it makes of a text delta rests on what was read of the text.
-fn edit_item<R: Repository, A: RepoAccess<View = R>, S: ReplySink>(
+pub fn edit_input<R: Repository, A: RepoAccess<View = R>, S: ReplySink>(
     edit: SessionEdit<R>,
     item: &Item,
     access: &mut A,
@@ -363,24 +361,4 @@ fn edit_item<R: Repository, A: RepoAccess<View = R>, S: ReplySink>(
             Err(AllocError)
         }
     }
-}
-
-/// Takes an item within an edit. Where each text that was read is the one that is known, that is the machine's step. Whatever
-/// was read, the session stands on what exists.
-pub fn edit_input<R: Repository, A: RepoAccess<View = R>, S: ReplySink>(
-    edit: SessionEdit<R>,
-    item: &Item,
-    access: &mut A,
-    turn: &mut Turn<S>,
-) -> Result<SessionPhase<R>, AllocError>
-    requires { StandsOn (Phase.Editing edit) (content_of (A.point access.old)) }
-    ensures known { S.is_honest turn.new.out → S.is_honest turn.old.out }
-    ensures step { S.is_honest turn.new.out
-        → SteppedInPart result S.writes turn.old turn.new A.rules A.point access.old access.new
-        (EditingStep (Unit {0}) turn.old.env edit (editor_command (value_of item.now)))
-        (UnreleasedEnd turn.old.env edit (editor_command (value_of item.now))) }
-    ensures rests { IfOk result (λ after. StandsOn after (content_of (A.point access.new))) }
-{
-    steps_keep_trees();
-    edit_item(edit, item, access, turn)
 }

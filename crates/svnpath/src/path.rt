@@ -146,6 +146,18 @@ impl Path {
         Path::from_components(alloc, components)
     }
 
+    /// Gives this path, and shares the components of the other if they are the same path.
+    pub fn like(self, other: &Path) -> Result<Self, AllocError>
+        ensures { IfOk result (λ path. path ≡ self) }
+    {
+        if self == *other {
+            std::mem::drop(self);
+            Ok(other.clone()?)
+        } else {
+            Ok(self)
+        }
+    }
+
     /// Gives the directory that this path is an entry of, or `None` for the root.
     pub fn parent(&self, alloc: Global) -> Result<Option<Self>, AllocError>
         ensures { IfOk result (λ above. above ≡ parent self.now) }

@@ -139,9 +139,10 @@ fn serve_one(
 fn open_to_write(
     rt: &HostRuntime,
     folder: &String,
+    is_quiet: bool,
 ) -> Result<FolderRepository<DiskStore>, ProgramFault> {
-    let stored = open_folder(rt, folder)?;
-    match stored.store().is_writable() {
+    let stored = open_folder(rt, folder, is_quiet)?;
+    match stored.store().inner().is_writable() {
         Ok(()) => Ok(stored),
         Err(fault) => {
             drop(stored);
@@ -162,7 +163,7 @@ fn prepare(
         return Err(not_served(rt.alloc(), "error: DIR of `serve` is a folder\n"));
     };
     let settings = read_settings(rt, rt.alloc(), service)?;
-    Ok((settings, open_to_write(rt, folder)?))
+    Ok((settings, open_to_write(rt, folder, service.quiet)?))
 }
 
 /// Gives the status to end with; a fault is printed before, with where it was met.

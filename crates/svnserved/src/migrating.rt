@@ -2,7 +2,7 @@
 
 use crate::beside::make_beside;
 use crate::fault::ProgramFault;
-use crate::repositories::{DiskStore, files_folder};
+use crate::repositories::{DiskStore, files_folder, open_files};
 use command_line::NewFormat;
 use filed_opening::{copy_repository, judged};
 use fsfs_lines::FileFault;
@@ -48,7 +48,7 @@ fn count_of(rt: &HostRuntime, store: &mut DiskStore) -> Result<u32, ProgramFault
     match judged(rt.alloc(), store) {
         Ok(count) => Ok(count),
         Err(StoreFault::File(FileFault::WrongFormat)) => Err(ProgramFault::NotOfFormatTwo),
-        Err(fault) => Err(ProgramFault::Unread(fault, store.last_read())),
+        Err(fault) => Err(ProgramFault::Unread(fault, store.inner().last_read())),
     }
 }
 
@@ -61,7 +61,7 @@ fn copy_into(
     quiet: bool,
 ) -> Result<(), ProgramFault> {
     let folder = files_folder(rt.alloc(), new)?;
-    let mut store: DiskStore = FolderStore::make(*rt, folder).map_err(ProgramFault::NewFolder)?;
+    let mut store = FolderStore::make(*rt, folder).map_err(ProgramFault::NewFolder)?;
     filed_opening::check_free(rt.alloc(), &mut store).map_err(ProgramFault::NewStore)?;
     make_beside(rt, new, NewFormat::Three).map_err(ProgramFault::NewFolder)?;
     let mut telling = Telling {
@@ -84,7 +84,7 @@ pub fn migrate_folder(
     quiet: bool,
 ) -> Result<(), ProgramFault> {
     check_free(rt, new)?;
-    let mut old: DiskStore = FolderStore::open(*rt, files_folder(rt.alloc(), folder)?)?;
+    let mut old = open_files(rt, files_folder(rt.alloc(), folder)?, quiet)?;
     match count_of(rt, &mut old) {
         Ok(count) => copy_into(rt, &mut old, new, count, quiet),
         Err(fault) => Err(fault),

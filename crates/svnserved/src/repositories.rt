@@ -1,6 +1,6 @@
 //! The repositories that are made and served.
-ghost use Rattle.std.specs.Prelude.{◌≡◌, List, IfOk};
-ghost use Rattle.store_files.specs.{Folders.{Folder, IsSame}, Note.{Known, folder_of}};
+ghost use Rattle.std.specs.Prelude.{◌≡◌, [], List, IfOk};
+ghost use Rattle.store_files.specs.{Folders.{Folder, IsSame}, Note.{Known, folder_of}, Replay.{Leaves, held}};
 ghost use Rattle.store_access.specs.Stored.{IsOpened};
 ghost use Rattle.filed_world.specs.Files.{filed_content};
 ghost use Rattle.folder_hub.specs.Opening.{IsFoundIn};
@@ -18,10 +18,11 @@ use std::alloc::{AllocError, Global};
 use std::mem::drop;
 use store_files::{MemoryStore, Store};
 use store_folder::FolderStore;
+use store_progress::ProgressStore;
 use uuid::Uuid;
 
-/// The files of a repository in a folder of the system.
-pub type DiskStore = FolderStore<HostRuntime>;
+/// The files of a repository in a folder of the system, of which it is said how far a start is.
+pub type DiskStore = ProgressStore<FolderStore<HostRuntime>, HostRuntime>;
 
 /// The UUID of an empty repository in memory.
 const EMPTY_UUID: u128 = 0x0000_0000_0000_4000_8000_0000_0000_0000;
@@ -47,7 +48,7 @@ pub fn create_in_folder(
     format: NewFormat,
 ) -> Result<(), ProgramFault> {
     let uuid = new_uuid(rt)?;
-    let mut store: DiskStore = FolderStore::make(*rt, files_folder(rt.alloc(), folder)?)?;
+    let mut store = FolderStore::make(*rt, files_folder(rt.alloc(), folder)?)?;
     check_free(rt.alloc(), &mut store)?;
     make_beside(rt, folder, format)?;
     create(
@@ -71,9 +72,25 @@ fn opened<S: Store>(alloc: Global, store: S) -> Result<FolderRepository<S>, Unop
 /// Says why the repository in a folder is not opened, and which of its files was read last.
 fn unread(unopened: Unopened<DiskStore>) -> ProgramFault {
     let Unopened { fault, store } = unopened;
-    let last = store.last_read();
+    let last = store.inner().last_read();
     drop(store);
     ProgramFault::Unread(fault, last)
+}
+
+/// Opens the folder of the files of a repository. How far its start is, is said on standard error unless it is quiet.
+pub fn open_files(
+    rt: &HostRuntime,
+    files: String,
+    is_quiet: bool,
+) -> Result<DiskStore, ProgramFault>
+    ghost was: { List Known }
+    ensures start { IfOk result (λ store. (store.inner.log.start ≡ was) × (store.inner.log.events ≡ [])) }
+    ensures rests { IfOk result (λ store. (f : Folder)
+        → Leaves (folder_of store.inner.log.start) store.inner.log.events f
+        → IsSame (held (folder_of store.inner.log.start) store.inner.log.events) f) }
+{
+    let store = FolderStore::open(*rt, files)?;
+    Ok(ProgressStore::new(store, *rt, is_quiet))
 }
 
 /// Opens the repository in a folder: whatever files were there, it contains what they stand for, where a read has not
@@ -81,12 +98,13 @@ fn unread(unopened: Unopened<DiskStore>) -> ProgramFault {
 pub fn open_folder(
     rt: &HostRuntime,
     folder: &String,
+    is_quiet: bool,
 ) -> Result<FolderRepository<DiskStore>, ProgramFault>
     ghost was: { List Known }
     ensures { IfOk result (λ stored. ⟦<DiskStore as Store>⟧.is_honest stored.saves.store
         → IsFoundIn (folder_of was) (filed_content stored.repository)) }
 {
-    let store = FolderStore::open(*rt, files_folder(rt.alloc(), folder)?)?;
+    let store = open_files(rt, files_folder(rt.alloc(), folder)?, is_quiet)?;
     match opened(rt.alloc(), store) {
         Ok(stored) => Ok(stored),
         Err(unopened) => Err(unread(unopened)),
@@ -101,7 +119,7 @@ pub fn folder_hub(
 ) -> Result<FolderHub<DiskStore>, ProgramFault>
     ensures { IfOk result (λ hub. hub.settings ≡ options) }
 {
-    match open_folder(rt, folder) {
+    match open_folder(rt, folder, false) {
         Ok(stored) => Ok(hub_over(rt.alloc(), stored, options)),
         Err(fault) => Err(fault),
     }

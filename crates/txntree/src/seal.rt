@@ -43,7 +43,7 @@ impl OpenNode {
     {
         let mut kids = nodes.kids(alloc, self.base)?;
         for (name, change) in &self.changed {
-            let below = path.child(alloc, name.clone()?)?;
+            let below = entry_path(alloc, nodes, &path, name, change)?;
             let id = change.sealed(alloc, nodes, rev, below, block)?;
             set_entry(&mut kids, alloc, name, id)?;
         }
@@ -67,6 +67,14 @@ impl OpenNode {
 }
 
 impl Change {
+    /// Gives the node that an entry is made from, if there is one.
+    fn base(&self) -> Option<NodeId> {
+        match self {
+            Change::Gone => None,
+            Change::Is(node) => node.base,
+        }
+    }
+
     /// Puts the node of an entry, and those under it, into the block; an entry that is gone has none.
     #[cycle(seal)]
     fn sealed(
@@ -88,6 +96,23 @@ impl Change {
                 Ok(Some(id))
             }
         }
+    }
+}
+
+/// Makes the path of an entry, and shares that of the node which it is made from if it is the same.
+fn entry_path(
+    alloc: Global,
+    nodes: &Nodes,
+    directory: &Path,
+    name: &ByteString,
+    change: &Change,
+) -> Result<Path, AllocError>
+    ensures { IfOk result (λ path. path ≡ directory.now ++ name.now ∷ []) }
+{
+    let path = directory.child(alloc, name.clone()?)?;
+    match nodes.held(change.base()) {
+        Some(node) => path.like(&node.path),
+        None => Ok(path),
     }
 }
 

@@ -114,8 +114,8 @@ fn opens_64_lists(rt: HostRuntime) {
 fn command(rt: &impl Abort, alloc: Global) -> Item {
     let text = ByteString::from_slice(alloc, b"a b").expect(rt, "memory");
     let params = vec![in alloc; Item::Number(7), Item::Str(text)].expect(rt, "memory");
-    let word = Vec::from_slice(alloc, b"check-path").expect(rt, "memory");
-    let parts = vec![in alloc; Item::Word(Name::from_vec(word)), Item::List(params)];
+    let word = Name::from_slice(alloc, b"check-path").expect(rt, "memory");
+    let parts = vec![in alloc; Item::Word(word), Item::List(params)];
     Item::List(parts.expect(rt, "memory"))
 }
 

@@ -15,8 +15,7 @@ pub fn word_item(alloc: Global, bytes: &[u8]) -> Result<Item, AllocError>
     requires { IsWord bytes.now }
     ensures { IfOk result (λ item. value_of item ≡ word bytes.now) }
 {
-    let bytes = Vec::from_slice(alloc, bytes)?;
-    Ok(Item::Word(Name::from_vec(bytes)))
+    Ok(Item::Word(Name::from_slice(alloc, bytes)?))
 }
 
 /// Makes a number.

@@ -1,14 +1,13 @@
 -- A letter, and the bytes of a word behind it.
-use Rattle.std.proofs.Common.{◌-◌, length, take, drop, sym, ap, ◌∙◌, subst}
+use Rattle.std.proofs.Common.{◌-◌, length, take, drop, sym, ap, ◌∙◌}
 use Rattle.items.specs.{Word.IsWord, Values.word}
 use Rattle.items.proofs.{Views.view-Word, Fronts.{all_dropped, word_of, word_read}}
 use Rattle.items.proofs.build.read_word.Goals as goal
 
-pub from_vec-requires : goal.from_vec-requires
-from_vec-requires c =
+pub from_slice-requires : goal.from_slice-requires
+from_slice-requires c =
     let bytes = c.args.bytes.now in
-    let rest = take (length bytes - 1) (drop 1 bytes) in
-    subst IsWord (sym c.in_ok-word.ensures.items) (word_of bytes rest c.count_word-len.result c.requires (all_dropped 1 bytes) c.count_word-len.ensures.value)
+    word_of bytes (take (length bytes - 1) (drop 1 bytes)) c.count_word-len.result c.requires (all_dropped 1 bytes) c.count_word-len.ensures.value
 
 pub returns : goal.returns
 returns c =
@@ -16,5 +15,6 @@ returns c =
     let rest = take (length bytes - 1) (drop 1 bytes) in
     let len = c.count_word-len.result in
     let behind = c.behind_space.ensures ∙ ap (λ x. drop 1 x) (all_dropped len rest) in
-    let r = word_read bytes rest c.in_ok-word.word.items c.behind_space.result.now len c.requires (all_dropped 1 bytes) c.count_word-len.ensures.value c.in_ok-word.ensures.items behind in
-    (r.0, r.1, r.2, ap (λ t. (t, c.behind_space.result.now)) (view-Word c.from_vec.result ∙ ap word c.from_vec.ensures) ∙ r.3)
+    let name = c.in_ok-name.name in
+    let r = word_read bytes rest name c.behind_space.result.now len c.requires (all_dropped 1 bytes) c.count_word-len.ensures.value c.in_ok-name.ensures behind in
+    (r.0, r.1, r.2, ap (λ t. (t, c.behind_space.result.now)) (view-Word name) ∙ r.3)

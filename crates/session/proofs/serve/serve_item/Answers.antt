@@ -30,11 +30,14 @@ returns-in-Challenged g c = rw c.in-Challenged.is (unparted _ _ _ _ _ _ c.challe
 pub returns-in-Serving : goal.returns-in-Serving
 returns-in-Serving g c = rw c.in-Serving.is (unparted _ _ _ _ _ _ c.main_item.result _ c.main_item.ensures)
 
-pub edit_input-requires : goal.edit_input-requires
-edit_input-requires g c = rw c.in-Editing.is at c.requires.rests
+pub edit_input-requires-clause-rests : goal.edit_input-requires-clause-rests
+edit_input-requires-clause-rests g c = (rw c.in-Editing.is at c.requires.rests).rests
+
+pub edit_input-requires-clause-sound : goal.edit_input-requires-clause-sound
+edit_input-requires-clause-sound g c = (rw c.in-Editing.is at c.requires.rests).sound
 
 pub returns-in-Editing : goal.returns-in-Editing
-returns-in-Editing g c = rw c.in-Editing.is (c.edit_input.ensures.step (c.requires.held _))
+returns-in-Editing g c = rw c.in-Editing.is c.edit_input.ensures
 
 pub returns-in-Skipping : goal.returns-in-Skipping
 returns-in-Skipping g c =

@@ -1,29 +1,23 @@
+use Rattle.std.proofs.Common.{refl, inl}
 use Rattle.items.specs.View.{value_of}
 use Rattle.wire_edits.specs.Editing.{editor_command}
-use Rattle.access.specs.Points.{content_of}
-use Rattle.machine.specs.Machine.{editing_weaker}
-use Rattle.machine.proofs.Resting.{edit_rests_later}
-use Rattle.session_commits.proofs.Known.{known_before, stands_then, stepped_so}
+use Rattle.machine.proofs.Refusing.{bad, unknown}
+use Rattle.session_replies.proofs.Steps.{stepped, only_says, unparted}
 use Rattle.session_commits.proofs.edit.edit_input.Goals as goal
 
-pub returns-clause-known : goal.returns-clause-known
-returns-clause-known g c = known_before g.S.Texts.is_honest g.S.ReplySink.writes g.met.S.ReplySink.kept g.A.RepoAccess.rules _ _ _ _ c.edit_item.result _ _ _ c.edit_item.ensures
+pub returns-in-Ok : goal.returns-in-Ok
+returns-in-Ok g c = rw c.in-Ok.ensures c.edit_command-phase.ensures
 
-pub returns-clause-step : goal.returns-clause-step
-returns-clause-step g c = λ known.
-    stepped_so g.A.RepoAccess.rules _ _
-    (editing_weaker (λ _. known) c.args.turn.now.env c.args.edit (editor_command (value_of c.args.item.now))) _ _ _ c.edit_item.result _ _ c.edit_item.ensures
+pub returns-in-Err-UnknownName : goal.returns-in-Err-UnknownName
+returns-in-Err-UnknownName g c =
+    rw (unknown (editor_command (value_of c.args.item.now)) (rw c.in-Err-UnknownName.field-0-is at c.in-Err-UnknownName.ensures))
+    (unparted _ _ _ _ _ _ _ _ (stepped (only_says (g.met.A.RepoAccess.stays _) refl) _ c.give_up.result _ c.give_up.ensures))
 
-pub returns-clause-rests : goal.returns-clause-rests
-returns-clause-rests g c =
-    let r = editor_command (value_of c.args.item.now) in
-    let env = c.args.turn.now.env in
-    stands_then g.A.RepoAccess.rules g.met.A.RepoAccess.keeps g.met.A.RepoAccess.counts _ _ _ _ c.edit_item.result _ _
-    (λ at a later step. (c.steps_keep_trees.ensures.read at.halted env (content_of at) c.args.edit r a
-    (record {
-      trees = g.met.A.RepoAccess.sound _ at later c.requires.trees;
-      rests = edit_rests_later g.A.RepoAccess.rules g.met.A.RepoAccess.keeps c.args.edit.editor _ at c.requires.rests later;
-      sound = c.requires.sound;
-    })
-    (editing_weaker (λ none. absurd none) env c.args.edit r at.halted (content_of at) a step)).0)
-    c.edit_item.ensures
+pub returns-in-Err-BadParameters : goal.returns-in-Err-BadParameters
+returns-in-Err-BadParameters g c =
+    rw (bad (editor_command (value_of c.args.item.now)) (rw c.in-Err-BadParameters.field-0-is at c.in-Err-BadParameters.ensures))
+    (unparted _ _ _ _ _ _ _ _ (stepped (only_says (g.met.A.RepoAccess.stays _) refl) _ c.end_malformed.result _ c.end_malformed.ensures))
+
+pub returns-in-Err-NoMemory : goal.returns-in-Err-NoMemory
+returns-in-Err-NoMemory g c =
+    inl (inl (g.met.A.RepoAccess.stays _, g.met.S.ReplySink.nothing c.args.turn.now.out))

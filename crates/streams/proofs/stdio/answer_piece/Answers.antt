@@ -10,7 +10,7 @@ returns-in-Ok-fed g c =
     let contents = g.W.Write.contents in
     let t = c.feed_to-fed.new.turn.out in
     let u = c.finish-finished.new.self in
-    let feeds = c.in-Ok-fed.ensures in
+    let feeds = c.in-Ok-fed.ensures.fed tt in
     let name = c.finish-finished.ensures.same_reference ∙ feeds.2.0 in
     let landed : Appends (contents c.args.output.now) (contents u.output.now) feeds.0 =
     all_finished (contents c.args.output.now) (contents t.output.now) (contents u.output.now) c.new-buffer.result.items t.buffer.items t.fault feeds.0
@@ -28,14 +28,14 @@ returns-in-Ok g c =
     let landed : Appends (contents c.args.output.now) (contents u.output.now) bytes =
     all_finished (contents c.args.output.now) (contents t.output.now) (contents u.output.now) c.new-buffer.result.items t.buffer.items t.fault bytes
     c.new-buffer.ensures.items wrote.1 c.in-Ok.ensures.written in
-    search rules) c.in-Err-fed.fault c.in-Err-fed.ensures
+    search rules) c.in-Err-fed.fault (c.in-Err-fed.ensures.fed tt)
 
 pub returns : goal.returns
 returns g c =
     let contents = g.W.Write.contents in
     let t = c.feed_to-fed.new.turn.out in
     let u = c.finish-finished.new.self in
-    fed_in_part c.feed_to-fed.result c.args.hub.now c.args.env c.args.number c.args.piece.now c.feed_to-fed.new.self _ _ c.feed_to-fed.ensures
+    fed_in_part c.feed_to-fed.result c.args.hub.now c.args.env c.args.number c.args.piece.now c.feed_to-fed.new.self _ _ (c.feed_to-fed.ensures.fed tt)
     (λ bytes wrote.
     let name = c.finish-finished.ensures.same_reference ∙ wrote.0 in
     let part = part_finished c.finish-finished.result (contents c.args.output.now) (contents t.output.now) (contents u.output.now) c.new-buffer.result.items t.buffer.items t.fault bytes

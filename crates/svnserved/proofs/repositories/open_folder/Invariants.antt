@@ -1,4 +1,4 @@
 use Rattle.svnserved.proofs.repositories.open_folder.Given as goal
 
-abbrev pub ghost-open : goal.ghost-open
-ghost-open g a = g.was
+abbrev pub ghost-open_files : goal.ghost-open_files
+ghost-open_files g a = g.was

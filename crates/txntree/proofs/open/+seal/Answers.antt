@@ -1,4 +1,4 @@
-use Rattle.std.proofs.{Common.{◌++◌, ◌∷◌, [], Some, refl, sym, ap, subst, ◌∙◌}, lemmas.Map.Iter.{rest_more, rest_all}}
+use Rattle.std.proofs.{Common.{◌∷◌, Some, refl, sym, ap, subst, ◌∙◌}, lemmas.Map.Iter.{rest_more, rest_all}}
 use Rattle.std.specs.{Map.Iter.deref_pair, Cmp.Lexicographic.slice_cmp, Ordering.nat_cmp, List.Sorted.IsStrictlySortedBy, Map.keys_of}
 use Rattle.repo_api.specs.declared.entry.Mark.TheVariants.{Made}
 use Rattle.noderevs.specs.{Heights.IsHeight, Held.node_at, Nodes.with_block}
@@ -36,7 +36,7 @@ OpenNode::sealed-loop-name-preserved t c =
           (first_of ((name, change) ∷ c.next.new.self)) (first_of c.next.new.self) c.loop-name.kids c.set_entry.new.kids name change c.in_ok-id.id
           (subst (λ es. IsSealing look c.args.rev c.args.path c.args.self.now c.args.block.now.items c.loop-name.block.items (first_of es) c.loop-name.kids) turn c.loop-name.invariant.1)
           (first_here name change c.next.new.self) (first_gone name change c.next.new.self sorted)
-          (c.in_ok-below.ensures ∙ ap (λ k. c.args.path ++ k ∷ []) c.in_ok-clone.ensures.cases)
+          c.in_ok-below.ensures
           c.sealed.ensures.grown c.in_ok-id.ensures.ok c.in_ok-set_entry.ensures,
     )
 

@@ -9,7 +9,7 @@ returns-in-Ok-fed-clause-fed g c =
     let contents = g.O.Write.contents in
     let t = c.feed-fed.new.turn.out in
     let u = c.finish-finished.new.self in
-    let fed = c.in-Ok-fed.ensures.ok in
+    let fed = c.in-Ok-fed.ensures.ok tt in
     let name = c.finish-finished.ensures.same_reference ∙ fed.written.0 in
     let landed : Appends (contents c.args.output.now) (contents u.output.now) (print fed.told) =
     all_finished (contents c.args.output.now) (contents t.output.now) (contents u.output.now) c.new-buffer.result.items t.buffer.items t.fault (print fed.told)
@@ -29,7 +29,7 @@ returns-in-Ok-clause-fed g c =
     let contents = g.O.Write.contents in
     let t = c.feed-fed.new.turn.out in
     let u = c.finish-finished.new.self in
-    let lost = c.in-Err-fed.ensures.lost c.requires.open in
+    let lost = c.in-Err-fed.ensures.lost tt c.requires.open in
     let wrote = lost.written.wrote in
     let name = c.finish-finished.ensures.same_reference ∙ wrote.0 in
     let landed : Appends (contents c.args.output.now) (contents u.output.now) lost.written.part =
@@ -62,7 +62,7 @@ returns-clause-fed g c =
     let t = c.feed-fed.new.turn.out in
     let u = c.finish-finished.new.self in
     unwritten c.feed-fed.result g.A.RepoAccess.rules c.args.self.now.options.now c.args.env (g.A.RepoAccess.point c.args.self.now.access) (g.A.RepoAccess.point c.feed-fed.new.access)
-    old.phase new.phase (old.rest ++ c.args.piece.now) new.rest _ _ c.feed-fed.ensures.ok (on_err _ _ c.feed-fed.result c.requires.open c.feed-fed.ensures.lost)
+    old.phase new.phase (old.rest ++ c.args.piece.now) new.rest _ _ (c.feed-fed.ensures.ok tt) (on_err _ _ c.feed-fed.result c.requires.open (c.feed-fed.ensures.lost tt))
     (λ bytes wrote.
     let name = c.finish-finished.ensures.same_reference ∙ wrote.0 in
     let part = part_finished c.finish-finished.result (contents c.args.output.now) (contents t.output.now) (contents u.output.now) c.new-buffer.result.items t.buffer.items t.fault bytes

@@ -17,7 +17,8 @@ returns-in_ok-clone-in-Some-clause-changed c =
     let at = at_its_path path c.in-Some.change.now (found rows path) (ap option_copied (sym c.in-Some.is) ∙ c.change_at.ensures) in
     at.1 ∙ ap (λ q. is_some (found rows q)) (sym (c.in_ok-clone-in-Some.ensures.cases ∙ at.0))
 
-pub returns-in-None-clause-changed : goal.returns-in-None-clause-changed
-returns-in-None-clause-changed c =
-    let path = c.args.path in
-    nowhere path (found c.args.self.changes.now path) (ap option_copied (sym c.in-None.is) ∙ c.change_at.ensures)
+pub returns-in_ok-path_like-in-None-clause-changed : goal.returns-in_ok-path_like-in-None-clause-changed
+returns-in_ok-path_like-in-None-clause-changed c =
+    let rows = c.args.self.changes.now in
+    nowhere c.args.path (found rows c.args.path) (ap option_copied (sym c.in-None.is) ∙ c.change_at.ensures)
+    ∙ ap (λ q. is_some (found rows q)) (sym c.in_ok-path_like-in-None.ensures)

@@ -1,8 +1,6 @@
 use Rattle.std.proofs.Common.{arith}
-use Rattle.repo_api.specs.States.{IsBeginning}
-use Rattle.access.specs.Points.{content_of}
 use Rattle.hub_runs.specs.State.{hub_at}
-use Rattle.hub.proofs.Feeding.{Feed, IsFed, finds_here, is_entry, entry_rests, is_fed, fed_feeds, fed_later, lost_breaks, lost_later, fed_holds}
+use Rattle.hub.proofs.Feeding.{Feed, IsFed, finds_here, is_entry, entry_rests, is_fed, fed_feeds, lost_breaks, fed_holds}
 use Rattle.hub.proofs.{hub.Hub.feed_open.Given.Over, hub.Hub.feed_open.Goals.{in-Ok, in-Err}}
 use Rattle.hub.proofs.hub.Hub.feed_open.Goals as goal
 
@@ -12,12 +10,13 @@ index_mut-entry-requires g c =
     let lt = (finds_here h c.args.self.now c.args.number c.args.i c.self.view_is c.requires.found).lt in
     omega (arith, c.self.inside.sessions.ok.0)
 
-pub feed-fed-requires-clause-rests : goal.feed-fed-requires-clause-rests
-feed-fed-requires-clause-rests g c =
+pub feed-fed-requires : goal.feed-fed-requires
+feed-fed-requires g c =
     let h = hub_at c.self.inside.options (g.A.RepoAccess.point c.self.inside.access) c.self.inside.sessions.items c.self.inside.used in
     let entry = c.index_mut-entry.result.now in
-    entry_rests h c.args.number entry c.self.invariant.1
-    (is_entry h c.args.self.now c.args.number c.args.i entry c.self.view_is c.self.invariant.0 c.requires.found c.index_mut-entry.ensures.value)
+    let rests = entry_rests h c.args.number entry c.self.invariant.1
+    (is_entry h c.args.self.now c.args.number c.args.i entry c.self.view_is c.self.invariant.0 c.requires.found c.index_mut-entry.ensures.value) in
+    record { rests = rests }
 
 -- what the session was fed
 abbrev feed : (g : Over) (c : goal.Joined-fed g) → Feed
@@ -47,29 +46,22 @@ invariant_of-self g c =
     let s = c.self.inside.options in
     let old = c.args.self.now in
     let f = feed g c in
-    let writes = g.S.ReplySink.writes c.args.turn.now.out c.feed-fed.new.turn.out in
-    let later : IsBeginning (content_of f.at).revisions (content_of f.at_after).revisions =
-    elim c.match-fed.branch [
-      | in-Ok w ↦ fed_later g.A.RepoAccess.rules s g.met.A.SoleAccess.alone g.met.A.RepoAccess.counts old f writes (fed g c) w.in-Ok.ensures.ok
-      | in-Err w ↦
-          lost_later g.A.RepoAccess.rules s g.met.A.SoleAccess.alone g.met.A.RepoAccess.counts old f writes (fed g c) w.in-Err.ensures.err (w.in-Err.ensures.lost (fed g c).lives)
-    ] in
-    fed_holds s old f (fed g c) c.self.invariant.0 c.self.invariant.1 later c.feed-fed.ensures.rests
+    fed_holds s old f (fed g c) c.self.invariant.0 c.self.invariant.1 c.feed-fed.ensures.stays c.feed-fed.ensures.rests
 
 pub returns-clause-ok : goal.returns-clause-ok
 returns-clause-ok g c =
     let writes = g.S.ReplySink.writes c.args.turn.now.out c.feed-fed.new.turn.out in
     elim c.match-fed.branch [
       | in-Ok w ↦
-          rw w.result-is (fed_feeds g.A.RepoAccess.rules c.self.inside.options g.met.A.SoleAccess.alone g.met.A.RepoAccess.counts c.args.self.now (feed g c) writes (fed g c) w.in-Ok.ensures.ok)
-      | in-Err w ↦ rw w.result-is tt
+          rw w.result-is (λ known. fed_feeds g.A.RepoAccess.rules c.self.inside.options g.met.A.SoleAccess.alone g.met.A.RepoAccess.counts c.args.self.now (feed g c) writes (fed g c) (w.in-Ok.ensures.ok known))
+      | in-Err w ↦ rw w.result-is (λ _. tt)
     ]
 
 pub returns-clause-err : goal.returns-clause-err
 returns-clause-err g c =
     let writes = g.S.ReplySink.writes c.args.turn.now.out c.feed-fed.new.turn.out in
     elim c.match-fed.branch [
-      | in-Ok w ↦ rw w.result-is tt
+      | in-Ok w ↦ rw w.result-is (λ _. tt)
       | in-Err w ↦
-          rw w.result-is (lost_breaks g.A.RepoAccess.rules c.self.inside.options g.met.A.SoleAccess.alone g.met.A.RepoAccess.counts c.args.self.now (feed g c) writes (fed g c) w.in-Err.ensures.err (w.in-Err.ensures.lost (fed g c).lives))
+          rw w.result-is (λ known. lost_breaks g.A.RepoAccess.rules c.self.inside.options g.met.A.SoleAccess.alone g.met.A.RepoAccess.counts c.args.self.now (feed g c) writes (fed g c) w.in-Err.ensures.err (w.in-Err.ensures.lost known (fed g c).lives))
     ]

@@ -1,5 +1,0 @@
-use Rattle.pool_rows.proofs.clients.the_sixth_of_five_is_turned_away.Given as goal
-
--- the history that was just opened
-abbrev pub ghosts-serve_clients : goal.ghosts-serve_clients
-ghosts-serve_clients g a = record { book = a.history.seen.book }

@@ -1,0 +1,5 @@
+use Rattle.session_rows.proofs.clients.the_seventeenth_is_turned_away.Given as goal
+
+-- the history that was just opened
+abbrev pub ghosts-serve_clients : goal.ghosts-serve_clients
+ghosts-serve_clients g a = record { book = a.history.seen.book }
