@@ -143,7 +143,9 @@ def many(client, tops, count):
 def searches(row):
     """A drive that has nothing to say, of a client that waits for its end, and of those that go."""
     width = row.options.width
-    switch = switch_of("a", "b", many(row.client("alice"), "ab", width))
+    with row.attack(f"a commit of {2 * (width * (width + 1) + 1):,} directories"):
+        revision = many(row.client("alice"), "ab", width)
+    switch = switch_of("a", "b", revision)
     with row.attack(f"a switch between directories of {width * (width + 1):,} that are alike") as cost:
         told, _is_over = driven(row.client(), switch, row.patience())
     row.say(f"it is told {len(told):,} items")

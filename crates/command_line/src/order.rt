@@ -14,13 +14,13 @@ pub enum Location {
     Folder(String),
 }
 
-/// Sessions over TCP: the repository of this name, where to listen, the file of users, how many sessions there may be at a
-/// time, and how many of them the clients of one address may have, whether clients may change the properties of revisions,
+/// Sessions over TCP: the repository of this name, at which addresses to listen, the file of users, how many sessions there may be
+/// at a time, and how many of them the clients of one address may have, whether clients may change the properties of revisions,
 /// whether nothing is told on standard error but a fault, and whether the program ends once changes have come to a halt.
 #[derive(Debug, Drop)]
 pub struct Service {
     pub location: Location,
-    pub listen: String,
+    pub listen: Vec<String>,
     pub name: String,
     pub users: String,
     pub sessions: u64,

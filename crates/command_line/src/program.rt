@@ -34,7 +34,7 @@ pub(crate) const FORMAT: &str = "format";
 /// The argument that names the repository.
 pub(crate) const NAME: &str = "name";
 
-/// The argument that says where to listen.
+/// The argument that says where to listen, which may be there several times.
 pub(crate) const LISTEN: &str = "listen";
 
 /// The argument that names the file of users.
@@ -100,14 +100,15 @@ fn revprops_argument<'a>(alloc: Global) -> Arg<'a> {
     )
 }
 
-/// Makes the argument that says where to listen.
+/// Makes the argument that says where to listen, which may be there several times.
 fn listen_argument<'a>(alloc: Global) -> Arg<'a> {
     required_argument(
         alloc,
         LISTEN,
         "ADDRESS:PORT",
-        "Where to listen: an IPv4 address, or an IPv6 address in brackets, and a port, where 0 is one that is free",
+        "Where to listen: an IPv4 address, or an IPv6 address in brackets, and a port, where 0 is one that is free; once for each address",
     )
+    .action(ArgAction::Append)
 }
 
 /// Makes the argument that names the file of users.
@@ -203,7 +204,7 @@ fn stdio_command<'a>(alloc: Global) -> Result<Command<'a>, AllocError> {
         .arg(revprops_argument(alloc))
 }
 
-/// Makes the command `serve DIR --listen ADDRESS:PORT --name NAME --users FILE [--sessions COUNT] [--per-address COUNT]
+/// Makes the command `serve DIR --listen ADDRESS:PORT.. --name NAME --users FILE [--sessions COUNT] [--per-address COUNT]
 /// [--revprops] [--quiet] [--exit-on-halt]`.
 fn serve_command<'a>(alloc: Global) -> Result<Command<'a>, AllocError> {
     Command::new(alloc, SERVE)

@@ -50,6 +50,22 @@ fn value_of(
     }
 }
 
+/// Makes copies of the values of an argument that has to be there, in the order in which they are.
+fn values_of(
+    alloc: Global,
+    matches: &ArgMatches<'_>,
+    name: &str,
+) -> Result<Vec<String>, CommandLineFault> {
+    let Some(values) = matches.get_strs(name) else {
+        return Err(bad(alloc, "error: an argument is missing\n"));
+    };
+    let mut copies = Vec::new(alloc);
+    for value in values {
+        copies.push(String::from_str(alloc, value)?)?;
+    }
+    Ok(copies)
+}
+
 /// Gives the folder of the repository.
 fn folder_of(alloc: Global, matches: &ArgMatches<'_>) -> Result<String, CommandLineFault> {
     let folder = value_of(alloc, matches, FOLDER)?;
@@ -188,7 +204,7 @@ fn counts_of(alloc: Global, matches: &ArgMatches<'_>) -> Result<(u64, u64), Comm
 /// Makes the order that the arguments of `serve` give.
 fn serve_order(alloc: Global, matches: &ArgMatches<'_>) -> Result<Order, CommandLineFault> {
     let location = location_of(alloc, matches)?;
-    let listen = value_of(alloc, matches, LISTEN)?;
+    let listen = values_of(alloc, matches, LISTEN)?;
     let name = value_of(alloc, matches, NAME)?;
     let users = value_of(alloc, matches, USERS)?;
     let (sessions, per_address) = counts_of(alloc, matches)?;

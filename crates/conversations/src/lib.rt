@@ -7,6 +7,7 @@ mod gate;
 mod limits;
 mod pieces;
 mod sink;
+mod tried;
 mod watch;
 mod worker;
 

@@ -12,6 +12,7 @@ use crate::gate::Gate;
 use crate::limits::is_past_limits;
 use crate::pieces::read_piece;
 use crate::sink::{OutputSink, PIECE, write_and_flush};
+use crate::tried::{first_answer, name_in};
 use crate::watch::Watch;
 use access::RepoAccess;
 use byte_string::ByteString;
@@ -57,10 +58,18 @@ pub struct Worker<'w, A, E, G, W> {
 }
 
 impl<'w, A: RepoAccess + Drop, E: EnvSource + Drop, G: Gate, W: Watch> Worker<'w, A, E, G, W> {
-    /// Tells how many logins were refused, and who has logged in, if a client has.
-    fn tell_logins(&self, number: u64, refused: u64, user: Option<&ByteString>) {
+    /// Tells how many logins were refused of those that were tried in a piece.
+    fn tell_refused(&self, number: u64, refused: u64, piece: &[u8]) {
+        match &first_answer(self.alloc, piece) {
+            Some(answer) => self.watch.refused(number, refused, name_in(answer)),
+            None => self.watch.refused(number, refused, None),
+        }
+    }
+
+    /// Tells how many logins in a piece were refused, and who has logged in, if a client has.
+    fn tell_logins(&self, number: u64, refused: u64, piece: &[u8], user: Option<&ByteString>) {
         if refused > 0 {
-            self.watch.refused(number, refused);
+            self.tell_refused(number, refused, piece);
         }
         if let Some(user) = user {
             self.watch.logged_in(number, user.as_slice());
@@ -110,7 +119,7 @@ impl<'w, A: RepoAccess + Drop, E: EnvSource + Drop, G: Gate, W: Watch> Worker<'w
         } = turn.out;
         // No effect at run time. The proof reads what the writer holds from this use of it.
         let _ = &*output;
-        self.tell_logins(number, refused, user_unless(had_user, session));
+        self.tell_logins(number, refused, piece, user_unless(had_user, session));
         match finished {
             Ok(()) => match fed {
                 Ok(()) => Ok(()),

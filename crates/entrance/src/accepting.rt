@@ -25,10 +25,13 @@ const WAIT_LIMIT: u64 = 5_000;
 /// comes again at once finds its own place free. One of an address waits so at a time.
 const RETURN_LIMIT: u64 = 20;
 
-/// How long the listener sleeps while clients wait for a place and none comes, in milliseconds.
+/// How long it sleeps while clients wait for a place and none comes, in milliseconds.
 const TURN: u64 = 2;
 
-/// How long it sleeps while it waits for the last session to end, in milliseconds.
+/// How long it sleeps where none comes at any of several addresses, in milliseconds.
+const ROUND: u64 = 5;
+
+/// How long it sleeps while it waits for the last session to end, or where a connection cannot be taken, in milliseconds.
 const LAST_TURN: u64 = 50;
 
 /// What may come to a halt.
@@ -37,12 +40,12 @@ pub trait Halts {
     fn takes_no_changes(&self) -> bool;
 }
 
-/// Where so many connections come in, so many of one address at a time, with what is known of those that have places, what
-/// may come to a halt, and whether no more are taken then.
+/// Where so many connections come in, at these addresses, so many of one client's address at a time, with what is known of those
+/// that have places, what may come to a halt, and whether no more are taken then.
 pub struct Entrance<'a, R, H: Drop> {
     pub rt: &'a R,
     pub alloc: Global,
-    pub listener: &'a TcpListener,
+    pub listeners: &'a [TcpListener],
     pub connections: usize,
     pub per_address: u64,
     pub registry: Registry<'a, R>,
@@ -62,7 +65,7 @@ impl<'a, R, H: Drop> Drop for Entrance<'a, R, H> {
         let Entrance {
             rt: _,
             alloc: _,
-            listener: _,
+            listeners: _,
             connections: _,
             per_address: _,
             registry: _,
@@ -261,15 +264,28 @@ impl<'s, 'e, R: Clock + Net + Wait, H: Halts + Drop> Acceptor<'s, 'e, R, H> {
         }
     }
 
-    /// Takes a connection that has come, and says whether there was one. While no client waits for a place, and more are to be
-    /// taken, it waits for one.
+    /// Says whether it may wait for a connection: at one address, while no client waits for a place and more are to be taken.
+    fn may_wait(&self) -> bool {
+        let is_alone = self.entrance.listeners.len() == 1;
+        is_alone && self.queue.is_empty() && !self.entrance.is_closing()
+    }
+
+    /// Takes a connection that has come at each address, and says whether there was one.
     fn accept(&mut self) -> bool {
+        let mut has_come = false;
+        for listener in self.entrance.listeners {
+            has_come = self.accept_at(listener) || has_come;
+        }
+        has_come
+    }
+
+    /// Takes a connection that has come at an address, and says whether there was one.
+    fn accept_at(&mut self, listener: &TcpListener) -> bool {
         if self.left == 0 {
             return false;
         }
-        let listener = self.entrance.listener;
         // where the mode cannot be set, it is as it was
-        let _ = listener.set_nonblocking(!self.queue.is_empty() || self.entrance.is_closing());
+        let _ = listener.set_nonblocking(!self.may_wait());
         let Ok((stream, peer)) = listener.accept() else {
             return false;
         };
@@ -291,10 +307,12 @@ impl<'s, 'e, R: Clock + Net + Wait, H: Halts + Drop> Acceptor<'s, 'e, R, H> {
 
     /// Says how long to sleep where nobody has come, in milliseconds.
     fn turn(&self) -> u64 {
-        if self.queue.is_empty() {
+        if !self.queue.is_empty() {
+            TURN
+        } else if self.may_wait() || self.entrance.is_closing() {
             LAST_TURN
         } else {
-            TURN
+            ROUND
         }
     }
 

@@ -7,6 +7,7 @@ use guests::{Awaited, Ending, Guests};
 use journals::Journal;
 use session_pool::{Gate, TalkFault, Watch};
 use std::alloc::{AllocError, Global};
+use std::collections::BTreeMap;
 use std::io::Eprint;
 use std::net::{IpAddr, Net, SocketAddr, TcpStream};
 use std::sync::atomic::{AtomicBool, AtomicU64, Ordering};
@@ -37,6 +38,8 @@ pub struct Registry<'a, R> {
     /// What sessions have noted since the guests were asked last.
     notes: Notes,
     guests: Mutex<Guests>,
+    /// Where the client of each session is.
+    peers: Mutex<BTreeMap<u64, SocketAddr>>,
 }
 
 impl<'a, R> Drop for Registry<'a, R> {
@@ -52,6 +55,7 @@ impl<'a, R> Drop for Registry<'a, R> {
             rests_until: _,
             notes: _,
             guests: _,
+            peers: _,
         } = self;
     }
 }
@@ -62,6 +66,22 @@ fn number_of(address: IpAddr) -> u64 {
     match address.to_canonical() {
         IpAddr::V4(address) => u64::from(address.to_bits()),
         IpAddr::V6(address) => (address.to_bits() >> 64) as u64,
+    }
+}
+
+/// Writes how many logins of a session were refused, whose client is at this address, and with which name the first was tried.
+fn refused_text(
+    alloc: Global,
+    (session, peer): (u64, SocketAddr),
+    logins: u64,
+    name: Option<&[u8]>,
+) -> Result<String, AllocError> {
+    match name {
+        Some(name) => {
+            let name = name.escape_ascii();
+            format!(in alloc; "session {session} ({peer}) is refused logins: {logins}, as {name}")
+        }
+        None => format!(in alloc; "session {session} ({peer}) is refused logins: {logins}"),
     }
 }
 
@@ -86,6 +106,7 @@ impl<'a, R> Registry<'a, R> {
             rests_until: AtomicU64::new(0),
             notes: Notes::new(alloc, sessions),
             guests: Mutex::new(Guests::new(alloc)),
+            peers: Mutex::new(BTreeMap::new(alloc)),
         }
     }
 
@@ -151,7 +172,11 @@ impl<'a, R: Clock + Wait> Registry<'a, R> {
     /// Notes that a session begins, and tells it.
     pub(crate) fn begins(&self, session: u64, peer: SocketAddr) -> Result<(), AllocError> {
         let (address, now) = (number_of(peer.ip()), millis_now(self.rt));
-        self.guests.lock(self.rt).come(session, address, now)?;
+        self.peers.lock(self.rt).insert(session, peer)?;
+        if let Err(error) = self.guests.lock(self.rt).come(session, address, now) {
+            self.peers.lock(self.rt).remove(&session);
+            return Err(error);
+        }
         self.open.fetch_add(1, Ordering::SeqCst);
         self.notes.begin(session);
         self.tell(Event::Begins(session, peer));
@@ -162,8 +187,22 @@ impl<'a, R: Clock + Wait> Registry<'a, R> {
     pub(crate) fn ends(&self, session: u64) {
         self.notes.end(session);
         self.guests.lock(self.rt).go(session);
+        self.peers.lock(self.rt).remove(&session);
         self.tell(Event::Ends(session));
         self.open.fetch_sub(1, Ordering::SeqCst);
+    }
+
+    /// Gives the address of the client of a session, if the session is open.
+    fn peer_of(&self, session: u64) -> Option<SocketAddr> {
+        self.peers.lock(self.rt).get(&session).copied()
+    }
+
+    /// Tells how many logins of a session were refused, and with which name the first was tried.
+    fn tell_refused(&self, session: u64, logins: u64, name: Option<&[u8]>) {
+        if let Some(peer) = self.peer_of(session) {
+            self.journal
+                .tell(refused_text(self.alloc, (session, peer), logins, name));
+        }
     }
 
     /// Notes how many clients wait for a place.
@@ -237,11 +276,9 @@ impl<'a, R: Clock + Net + Wait> Watch for Registry<'a, R> {
         }
     }
 
-    fn refused(&self, session: u64, logins: u64) {
+    fn refused(&self, session: u64, logins: u64, name: Option<&[u8]>) {
         if !self.is_quiet() {
-            self.journal.tell(format!(in self.alloc;
-                "session {session} has logins refused: {logins}"
-            ));
+            self.tell_refused(session, logins, name);
         }
         let until = millis_now(self.rt).saturating_add(REFUSED_REST);
         self.guests.lock(self.rt).rest(session, until);

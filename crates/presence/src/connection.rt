@@ -6,7 +6,8 @@ use std::net::TcpStream;
 use std::sync::Arc;
 
 /// A client at the other end of a connection, if there is one. It has gone where the connection has failed, or where it
-/// sends nothing more and all that it has sent was read.
+/// sends nothing more and all that it has sent was read. What is sent to one that takes nothing any more makes the connection
+/// fail, so such a client has gone also where it has sent what was not read.
 pub struct Connection {
     stream: Option<Arc<TcpStream>>,
 }
@@ -26,11 +27,12 @@ impl Connection {
     }
 }
 
-/// Says whether nothing more comes, while no read waits for it.
+/// Says whether nothing more comes, while no read waits for it. A connection that has failed has nobody at its other end, also
+/// where there are bytes that came before.
 fn has_ended(stream: &TcpStream) -> bool {
     let mut next = [0; 1];
     match stream.peek(&mut next) {
-        Ok(count) => count == 0,
+        Ok(count) => count == 0 || stream.peer_addr().is_err(),
         Err(error) => !matches!(error.kind(), ErrorKind::WouldBlock | ErrorKind::Interrupted),
     }
 }

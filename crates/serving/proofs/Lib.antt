@@ -1,2 +1,3 @@
+pub mod Addresses
 pub mod Mapped
 pub mod Served

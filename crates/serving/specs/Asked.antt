@@ -1,5 +1,6 @@
 -- What a server is asked to serve by, and what it serves by.
-use Rattle.std.specs.{Net.Grammar.IsSocketText, Prelude.{◌≡◌, ℕ, List, Some, string_bytes}}
+use Rattle.std.specs.{Net.Grammar.IsSocketText, Prelude.{◌≡◌, ℕ, List, [], ◌∷◌, Some, map, string_bytes, ⊤}}
+use Rattle.std.specs.declared.net.socket_addr.SocketAddr.{SocketAddr}
 use Rattle.cram.specs.UsersFile.{AreRight, file_lines, logins_of}
 use Rattle.command_line.specs.declared.order.Service.{Service}
 use Rattle.serving.specs.declared.settings.Settings.{Settings}
@@ -14,10 +15,18 @@ OptionsAreAsked service s =
       revprops = service.revprops;
     })
 
+-- each address is what the text in its place says
+abbrev pub AreSocketTexts : List (List ℕ) → List SocketAddr → Type 0
+AreSocketTexts [] [] = ⊤
+AreSocketTexts [] (address ∷ addresses) = ⊥
+AreSocketTexts (text ∷ texts) [] = ⊥
+AreSocketTexts (text ∷ texts) (address ∷ addresses) =
+    IsSocketText text address × AreSocketTexts texts addresses
+
 -- where the server listens, whether it is quiet, and whether it ends once changes have come to a halt
 abbrev pub PlaceIsAsked : Service → Settings → Type 0
 PlaceIsAsked service s =
-    IsSocketText (string_bytes service.listen) s.address × (s.is_quiet ≡ service.quiet)
+    AreSocketTexts (map string_bytes service.listen.items) s.addresses.items × (s.is_quiet ≡ service.quiet)
     × (s.exits_on_halt ≡ service.exit_on_halt)
 
 -- how many sessions there may be at a time, and how many of one address

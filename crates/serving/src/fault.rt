@@ -12,18 +12,19 @@ pub enum ServingFault {
     /// No repository may have the name.
     #[error("a name is 1 to 64 of A-Z, a-z, 0-9, `-`, `_` and `.`, and not `.` or `..`")]
     Name,
-    /// The address to listen at isn't a dotted IPv4 address or an IPv6 address in brackets, `:` and a port.
+    /// The address to listen at, by its place among those that were asked for, isn't a dotted IPv4 address or an IPv6 address
+    /// in brackets, `:` and a port.
     #[error("an address is a dotted IPv4 address or an IPv6 address in brackets, `:` and a port")]
-    Address,
+    Address(usize),
     /// The first line of the file of users that breaks its form, counted from 1.
     #[error("M4 line {0}")]
     Users(usize),
     /// The file of users cannot be read.
     #[error("io")]
     UsersFile(Reason),
-    /// The system does not let the server listen at the address.
+    /// The system does not let the server listen at the address in this place.
     #[error("io")]
-    Listening(Reason),
+    Listening(usize, Reason),
     /// A thread cannot be started.
     #[error("io")]
     Thread,
@@ -44,7 +45,7 @@ pub enum ServingFault {
 impl ServingFault {
     /// Says whether what was asked for is faulty, and not what was found.
     pub fn is_of_command_line(&self) -> bool {
-        matches!(self, ServingFault::Name | ServingFault::Address)
+        matches!(self, ServingFault::Name | ServingFault::Address(_))
     }
 }
 

@@ -27,16 +27,18 @@ impl Opening for Silent {
 #[derive(Drop)]
 pub(crate) struct Aloud<'a, P> {
     pub(crate) rt: &'a P,
-    pub(crate) listener: &'a TcpListener,
+    pub(crate) listeners: &'a [TcpListener],
     pub(crate) too_few_files: Option<Event>,
 }
 
 impl<'a, P: Eprint> Aloud<'a, P> {
     /// Tells where the server listens.
-    fn tell_address(&self) {
-        if let Ok(address) = self.listener.local_addr() {
-            // what standard error does not take is lost
-            let _ = eprint!(self.rt; "svnserved: listens at {address}\n");
+    fn tell_addresses(&self) {
+        for listener in self.listeners {
+            if let Ok(address) = listener.local_addr() {
+                // what standard error does not take is lost
+                let _ = eprint!(self.rt; "svnserved: listens at {address}\n");
+            }
         }
     }
 }
@@ -47,7 +49,7 @@ impl<'a, P: Print + Eprint> Opening for Aloud<'a, P> {
             registry.tell_first(event);
         }
         if !registry.is_quiet() {
-            self.tell_address();
+            self.tell_addresses();
         }
         match println!(self.rt; "ready") {
             Ok(()) => Ok(()),

@@ -159,7 +159,7 @@ where
 /// Where connections come in, how many are taken, and what is told once they are.
 #[derive(Drop)]
 struct Arrivals<'a, O> {
-    listener: &'a TcpListener,
+    listeners: &'a [TcpListener],
     connections: usize,
     opening: &'a O,
 }
@@ -168,7 +168,7 @@ struct Arrivals<'a, O> {
 /// answers once all have ended, or where a thread fails.
 pub fn serve_connections<R, S, J>(
     server: &Server<'_, R>,
-    listener: &TcpListener,
+    listeners: &[TcpListener],
     connections: usize,
     desks: Desks<'_, R, FiledWorld, S, J>,
 ) -> Result<(), ServingFault>
@@ -185,7 +185,7 @@ where
     requires { All (λ d. AreSound (content_of (point_of d.seat)).revisions) desks.1.items }
 {
     let arrivals = Arrivals {
-        listener,
+        listeners,
         connections,
         opening: &Silent,
     };
@@ -225,20 +225,19 @@ where
     let (repository, desks) = desks;
     let (rt, alloc) = (server.rt, server.alloc);
     let Arrivals {
-        listener,
+        listeners,
         connections,
         opening,
     } = arrivals;
     let exits_on_halt = server.settings.exits_on_halt;
-    let wakes_at = if exits_on_halt {
-        listener.local_addr().ok()
-    } else {
-        None
+    let wakes_at = match listeners {
+        [listener] if exits_on_halt => listener.local_addr().ok(),
+        _ => None,
     };
     let entrance = Entrance {
         rt,
         alloc,
-        listener,
+        listeners,
         connections,
         per_address: server.settings.per_address,
         registry: Registry::new(rt, alloc, journal, server.settings.sessions, wakes_at),
@@ -288,15 +287,23 @@ where
     )
 }
 
-/// Listens at an address.
-fn listener_at<R>(rt: &R, address: SocketAddr) -> Result<TcpListener, ServingFault>
+/// Listens at these addresses.
+fn listeners_at<R>(
+    rt: &R,
+    alloc: Global,
+    addresses: &[SocketAddr],
+) -> Result<Vec<TcpListener>, ServingFault>
 where
     R: Net<Listener = TcpListener, Stream = TcpStream>,
 {
-    match TcpListener::bind(rt, address) {
-        Ok(listener) => Ok(listener),
-        Err(error) => Err(ServingFault::Listening(Reason::of(&error))),
+    let mut listeners = Vec::new(alloc);
+    for place in 0..addresses.len() {
+        match TcpListener::bind(rt, addresses[place]) {
+            Ok(listener) => listeners.push(listener)?,
+            Err(error) => return Err(ServingFault::Listening(place, Reason::of(&error))),
+        }
     }
+    Ok(listeners)
 }
 
 /// Serves sessions over TCP at the desks of a repository. It prints `ready` once it listens and all threads have
@@ -319,14 +326,15 @@ where
     J: Naming + Send + Sync + 'static,
     requires { All (λ d. AreSound (content_of (point_of d.seat)).revisions) desks.1.items }
 {
-    let listener = listener_at(server.rt, server.settings.address)?;
+    let addresses = server.settings.addresses.as_slice();
+    let listeners = listeners_at(server.rt, server.alloc, addresses)?;
     let opening = Aloud {
         rt: server.rt,
-        listener: &listener,
+        listeners: listeners.as_slice(),
         too_few_files: too_few_files(server.rt, server.settings.sessions),
     };
     let arrivals = Arrivals {
-        listener: &listener,
+        listeners: listeners.as_slice(),
         connections: usize::MAX,
         opening: &opening,
     };

@@ -1,7 +1,7 @@
 //! What sessions are served by.
-ghost use Rattle.std.specs.Prelude.{◌≡◌, ℕ, List, IfOk, Some, string_bytes};
+ghost use Rattle.std.specs.Prelude.{◌≡◌, ◌<◌, ℕ, List, IfOk, IfSome, Some, length, map, slice_get, string_bytes};
 ghost use Rattle.cram.specs.UsersFile.{AreRight, file_lines, logins_of};
-ghost use Rattle.serving.specs.Asked.{CountsAreAsked, OptionsAreAsked, PlaceIsAsked};
+ghost use Rattle.serving.specs.Asked.{AreSocketTexts, CountsAreAsked, OptionsAreAsked, PlaceIsAsked};
 ghost use Rattle.std.specs.Net.Grammar.{IsSocketText};
 
 use crate::fault::ServingFault;
@@ -17,13 +17,13 @@ use std::net::SocketAddr;
 use std::os::unix::fs::PermissionsExt;
 use std::rt::Runtime;
 
-/// What sessions are served by: the options of the repository, where to listen, how many sessions there may be at a time, and
+/// What sessions are served by: the options of the repository, the addresses to listen at, how many sessions there may be at a time, and
 /// how many of them one address may have, whether others can read the file of users, whether they can write it, whether
 /// nothing is told on standard error, and whether the server ends once changes have come to a halt.
 #[derive(Drop)]
 pub struct Settings {
     pub options: Options,
-    pub address: SocketAddr,
+    pub addresses: Vec<SocketAddr>,
     pub sessions: u64,
     pub per_address: u64,
     pub is_exposed: bool,
@@ -40,14 +40,27 @@ pub struct Server<'s, R> {
     pub settings: &'s Settings,
 }
 
-/// Reads where to listen: an address and a port.
-fn address_of(service: &Service) -> Result<SocketAddr, ServingFault>
-    ensures { IfOk result (IsSocketText (string_bytes service.now.listen)) }
+/// Reads one of the addresses with a port at which to listen, which is in this place.
+fn address_at(listen: &[String], place: usize) -> Result<SocketAddr, ServingFault>
+    requires { place < length listen.now }
+    ensures { IfOk result (λ address. IfSome (slice_get listen.now place)
+        (λ text. IsSocketText (string_bytes text) address)) }
 {
-    match service.listen.as_str().parse::<SocketAddr>() {
+    match listen[place].as_str().parse::<SocketAddr>() {
         Ok(address) => Ok(address),
-        Err(_) => Err(ServingFault::Address),
+        Err(_) => Err(ServingFault::Address(place)),
     }
+}
+
+/// Reads where to listen: addresses with a port.
+fn addresses_of(alloc: Global, listen: &[String]) -> Result<Vec<SocketAddr>, ServingFault>
+    ensures { IfOk result (λ addresses. AreSocketTexts (map string_bytes listen.now) addresses.items) }
+{
+    let mut addresses = Vec::new(alloc);
+    for place in 0..listen.len() {
+        addresses.push(address_at(listen, place)?)?;
+    }
+    Ok(addresses)
 }
 
 /// Makes the options of the repository, with the users of a file.
@@ -111,12 +124,12 @@ pub fn read_settings<R: Runtime>(
     if !is_repository_name(service.name.as_str()) {
         return Err(ServingFault::Name);
     }
-    let address = address_of(service)?;
+    let addresses = addresses_of(alloc, service.listen.as_slice())?;
     let users = users_of(rt, alloc, service.users.as_str())?;
     let mode = mode_of(rt, service.users.as_str());
     Ok(Settings {
         options: options_of(alloc, service, users)?,
-        address,
+        addresses,
         sessions: service.sessions,
         per_address: service.per_address,
         is_exposed: mode & OTHERS_READ != 0,

@@ -14,6 +14,7 @@ use std::mem::drop;
 use std::net::{Ipv4Addr, Net, SocketAddr, SocketAddrV4, TcpListener, TcpStream};
 use std::process::Abort;
 use std::random::RandomSource;
+use std::slice;
 use std::sync::Wait;
 use std::thread::{Threads, join};
 use std::time::{Clock, Duration};
@@ -208,7 +209,7 @@ where
     let stored = empty_repository(rt, alloc);
     let sessions = server.settings.sessions;
     let desks = desks_at::<R, FiledWorld, MemoryStore, J>(rt, alloc, stored, history, sessions);
-    serve_connections(server, listener, count, desks).expect(rt, "all threads");
+    serve_connections(server, slice::from_ref(listener), count, desks).expect(rt, "all threads");
 }
 
 /// Serves these clients on an empty repository, and answers once all have gone.
@@ -228,7 +229,7 @@ where
 {
     let settings = Settings {
         options: Options::new(alloc, "r").expect(rt, "memory"),
-        address: SocketAddr::V4(SocketAddrV4::new(Ipv4Addr::LOCALHOST, 0)),
+        addresses: Vec::new(alloc),
         sessions: clients.sessions(),
         per_address: clients.per_address(),
         is_exposed: false,

@@ -55,7 +55,7 @@ fn settings<R: Abort + Runtime>(rt: &R, alloc: Global) -> Settings {
     let text = |text: &str| String::from_str(alloc, text).expect(rt, "memory");
     let asked = Service {
         location: Location::Memory,
-        listen: text("127.0.0.1:0"),
+        listen: vec![in alloc; text("127.0.0.1:0")].expect(rt, "memory"),
         name: text("r"),
         users: text("guests"),
         sessions: 16,
@@ -133,7 +133,10 @@ where
     requires { history.seen.book ≡ J.book }
 {
     let (rt, alloc) = (server.rt, server.alloc);
-    let listener = TcpListener::bind(rt, server.settings.address).expect(rt, "a listener");
+    let listener = TcpListener::bind(rt, server.settings.addresses.as_slice()).expect(
+        rt,
+        "a listener",
+    );
     let address = listener.local_addr().expect(rt, "an address");
     join(
         rt,

@@ -12,8 +12,8 @@ fn text(rt: &impl Abort, alloc: Global, text: &str) -> String {
     String::from_str(alloc, text).expect(rt, "memory")
 }
 
-/// Names, addresses and files of users, and what is told of the first fault among them.
-static FAULTS: [((&str, &str, &str), &str); 8] = [
+/// Names, addresses with a space between them and files of users, and what is told of the first fault among them.
+static FAULTS: [((&str, &str, &str), &str); 10] = [
     (
         (".", "localhost:1", "none"),
         "a name is 1 to 64 of A-Z, a-z, 0-9, `-`, `_` and `.`, and not `.` or `..`",
@@ -34,10 +34,24 @@ static FAULTS: [((&str, &str, &str), &str); 8] = [
     (("r", "127.0.0.1:1", "faulty"), "M4 line 3"),
     (("r", "127.0.0.1:1", "users"), ""),
     (("r", "[::1]:1", "users"), ""),
+    (("r", "[::1]:1 127.0.0.1:1", "users"), ""),
+    (
+        ("r", "127.0.0.1:1 localhost:1", "users"),
+        "an address is a dotted IPv4 address or an IPv6 address in brackets, `:` and a port",
+    ),
 ];
 
+/// Makes a list of the words of a text.
+fn words(rt: &impl Abort, alloc: Global, words: &str) -> Vec<String> {
+    let mut list = Vec::new(alloc);
+    for word in words.split(' ') {
+        list.push(text(rt, alloc, word)).expect(rt, "memory");
+    }
+    list
+}
+
 /// Says whether this is what is told of the fault of an order to serve with this name, address and file of users, or
-/// nothing where it has none.
+/// nothing where it has none. There are as many addresses as were asked for.
 fn is_told<R: Abort + Runtime>(
     rt: &R,
     alloc: Global,
@@ -46,7 +60,7 @@ fn is_told<R: Abort + Runtime>(
 ) -> bool {
     let asked = Service {
         location: Location::Memory,
-        listen: text(rt, alloc, listen),
+        listen: words(rt, alloc, listen),
         name: text(rt, alloc, name),
         users: text(rt, alloc, users),
         sessions: 16,
@@ -56,7 +70,7 @@ fn is_told<R: Abort + Runtime>(
         exit_on_halt: false,
     };
     match read_settings(rt, alloc, &asked) {
-        Ok(_) => wanted.is_empty(),
+        Ok(read) => wanted.is_empty() && read.addresses.len() == asked.listen.len(),
         Err(fault) => format!(in alloc; "{fault}").expect(rt, "memory").as_str() == wanted,
     }
 }

@@ -8,7 +8,7 @@ use machine::Options;
 use session_pool::SessionPool;
 use std::sync::atomic::{AtomicU64, Ordering};
 
-/// Counts what it is told: the logins of alice in session 1 and all logins, the logins that session 1 has refused, the
+/// Counts what it is told: the logins of alice in session 1 and all logins, the logins as alice that session 1 has refused, the
 /// sessions that are given up, and those that have ended without a halt.
 #[derive(Drop)]
 struct Counts {
@@ -27,8 +27,8 @@ impl Watch for Counts {
         }
     }
 
-    fn refused(&self, session: u64, logins: u64) {
-        if session == 1 {
+    fn refused(&self, session: u64, logins: u64, name: Option<&[u8]>) {
+        if session == 1 && name.is_some_and(|name| name == b"alice".as_slice()) {
             self.refused.fetch_add(logins, Ordering::SeqCst);
         }
     }

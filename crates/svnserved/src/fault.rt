@@ -150,7 +150,7 @@ impl fmt::Display for Unserved<'_> {
     fn fmt<W: fmt::Write>(&self, f: &mut fmt::Formatter<W>) -> fmt::Result {
         let fault = self.0;
         match fault {
-            ServingFault::Name | ServingFault::Address => writeln!(f, "error: {fault}"),
+            ServingFault::Name | ServingFault::Address(_) => writeln!(f, "error: {fault}"),
             ServingFault::Store(fault) => write!(f, "{}", store_fault(*fault)),
             ServingFault::NoMemory => write!(f, "{}", explain("O4", "out of memory")),
             _ => writeln!(f, "svnserved: {fault}"),
@@ -195,7 +195,7 @@ impl fmt::Display for ProgramFault {
             ProgramFault::NotOfFormatTwo => {
                 write!(f, "{}", explain("X6", "there is no repository of format 2"))
             }
-            ProgramFault::Address => writeln!(f, "error: {}", ServingFault::Address),
+            ProgramFault::Address => writeln!(f, "error: {}", ServingFault::Address(0)),
             ProgramFault::Unanswered(fault) => write!(f, "{}", Unanswered(fault)),
         }
     }

@@ -15,8 +15,11 @@ pub struct Named<'a> {
     folder: &'a str,
     new: &'a str,
     name: &'a str,
-    listen: &'a str,
+    /// Where to listen.
+    listen: &'a [String],
     users: &'a str,
+    /// Where a server is asked.
+    address: &'a str,
 }
 
 /// Gives the folder of a location.
@@ -34,8 +37,9 @@ impl<'a> Named<'a> {
             folder: "",
             new: "",
             name: "",
-            listen: "",
+            listen: &[],
             users: "",
+            address: "",
         }
     }
 
@@ -67,14 +71,14 @@ impl<'a> Named<'a> {
             },
             Order::Serve(service) => Named {
                 folder: folder_of(&service.location),
-                new: "",
                 name: service.name.as_str(),
-                listen: service.listen.as_str(),
+                listen: service.listen.as_slice(),
                 users: service.users.as_str(),
+                ..nothing
             },
             Order::Status { address, name } => Named {
                 name: name.as_str(),
-                listen: address.as_str(),
+                address: address.as_str(),
                 ..nothing
             },
             Order::Version => nothing,
@@ -153,11 +157,19 @@ fn failed_place<'a>(words: &'static str, name: &'a str, reason: Reason) -> Optio
 }
 
 impl<'a> Named<'a> {
+    /// Gives the address in a place of those at which to listen.
+    fn listen_at(self, place: usize) -> &'a str {
+        match self.listen.get(place) {
+            Some(address) => address.as_str(),
+            None => "",
+        }
+    }
+
     /// Gives where sessions over TCP were not served.
     fn place_of_serving(self, fault: &ServingFault) -> Option<Place<'a>> {
         match fault {
             ServingFault::Name => plain_place("--name is ", self.name),
-            ServingFault::Address => plain_place("--listen is ", self.listen),
+            ServingFault::Address(place) => plain_place("--listen is ", self.listen_at(*place)),
             ServingFault::Users(_) => plain_place(
                 "that line is not valid in the file of users ",
                 self.users,
@@ -165,9 +177,9 @@ impl<'a> Named<'a> {
             ServingFault::UsersFile(reason) => {
                 failed_place("cannot read the file of users ", self.users, *reason)
             }
-            ServingFault::Listening(reason) => failed_place(
+            ServingFault::Listening(place, reason) => failed_place(
                 "cannot listen at ",
-                self.listen,
+                self.listen_at(*place),
                 *reason,
             ),
             ServingFault::Thread => plain_place("cannot start a thread", ""),
@@ -187,16 +199,16 @@ impl<'a> Named<'a> {
         match fault {
             AskFault::Connection(error) => failed_place(
                 "cannot reach ",
-                self.listen,
+                self.address,
                 Reason::of(error),
             ),
-            AskFault::Ended => plain_place("the connection was closed at ", self.listen),
+            AskFault::Ended => plain_place("the connection was closed at ", self.address),
             AskFault::Failed(STORE_FAILED) => plain_place(
                 "changes have come to a halt at ",
-                self.listen,
+                self.address,
             ),
-            AskFault::Failed(_) => plain_place("a client is refused at ", self.listen),
-            AskFault::Unknown => plain_place("no Subversion server is at ", self.listen),
+            AskFault::Failed(_) => plain_place("a client is refused at ", self.address),
+            AskFault::Unknown => plain_place("no Subversion server is at ", self.address),
             AskFault::NoMemory => None,
         }
     }
@@ -233,7 +245,7 @@ impl<'a> Named<'a> {
             ProgramFault::Folder(_) => plain_place("the folder is ", self.folder),
             ProgramFault::NewStore(_) => plain_place("in the folder ", self.new),
             ProgramFault::NewFolder(_) => plain_place("the folder is ", self.new),
-            ProgramFault::Address => plain_place("the address is ", self.listen),
+            ProgramFault::Address => plain_place("the address is ", self.address),
             ProgramFault::Unanswered(fault) => self.place_of_asking(fault),
         }
     }

@@ -21,6 +21,18 @@ fn located(location: &Location) -> &str {
     }
 }
 
+/// Joins words by commas.
+fn joined(rt: &impl Abort, alloc: Global, words: &[String]) -> String {
+    let mut text = String::new(alloc);
+    for word in words {
+        if !text.is_empty() {
+            text.push(',').expect(rt, "memory");
+        }
+        text.push_str(word.as_str()).expect(rt, "memory");
+    }
+    text
+}
+
 /// Gives sessions over TCP as one text.
 fn served(rt: &impl Abort, alloc: Global, service: &Service) -> String {
     let Service {
@@ -35,6 +47,7 @@ fn served(rt: &impl Abort, alloc: Global, service: &Service) -> String {
         exit_on_halt,
     } = service;
     let location = located(location);
+    let listen = joined(rt, alloc, listen.as_slice());
     let text = format!(in alloc;
         "serve {location} {listen} {name} {users} {sessions} {per_address} {revprops} {quiet} {exit_on_halt}"
     );
@@ -86,7 +99,7 @@ fn is_asked(rt: &impl Abort, alloc: Global, line: &str, wanted: &str) -> bool {
     is_order(rt, alloc, &read(rt, alloc, line), wanted)
 }
 
-static LINES: [(&str, &str); 25] = [
+static LINES: [(&str, &str); 26] = [
     ("svnserved stdio - --name r", "stdio in memory r false"),
     ("svnserved stdio --name=r -", "stdio in memory r false"),
     (
@@ -109,6 +122,10 @@ static LINES: [(&str, &str); 25] = [
     (
         "svnserved serve - --listen 127.0.0.1:3690 --name r --users file",
         "serve in memory 127.0.0.1:3690 r file 16 16 false false false",
+    ),
+    (
+        "svnserved serve - --listen 127.0.0.1:1 --listen=[::1]:2 --name r --users file",
+        "serve in memory 127.0.0.1:1,[::1]:2 r file 16 16 false false false",
     ),
     (
         "svnserved serve --quiet --users=file --revprops --name=r --listen=0.0.0.0:1 folder",

@@ -39,7 +39,7 @@ module _ (h : Held) (base : ℕ) (tree : TxnTree) (changes : ChangeMap)
   }
 
   pub begun_open : ((t : Tree) → IsTree t → IsTree (begun t)) → IsSoundRepo (held_state h)
-      → IsOpen h base tree changes
+      → IsOpen h h base tree changes
   begun_open begins sound =
       let rs = revisions_of h in
       let n = youngest (held_state h) in
@@ -56,28 +56,28 @@ module _ (h : Held) (base : ℕ) (tree : TxnTree) (changes : ChangeMap)
             (begun_with m.0 map empty);
       }
 
-  pub begun_txn : (locks : LockMap) (t : WorldTxn) → t.shown.value ≡ h → t.base ≡ base
+  pub begun_txn : (locks : LockMap) (t : WorldTxn) → t.shown.value ≡ h → t.over.value ≡ h → t.base ≡ base
       → t.tree ≡ tree → t.changes ≡ changes → IsBegun (state_of h locks) (txn_state_of t)
-  begun_txn locks t shown base_is tree_is changes_are =
+  begun_txn locks t shown over base_is tree_is changes_are =
       let map : IsMapOf (txn_tree h.nodes tree) (txn_map t) = λ q. txn_map_is t q
-      ∙ (λ i. txn_tree ((shown i).nodes) (tree_is i) q) in
+      ∙ (λ i. txn_tree ((over i).nodes) (tree_is i) q) in
       subst (IsBegun (state_of h locks))
       (λ i. txn_of (sym shown i) (sym base_is i) (txn_map t) (sym changes_are i))
       (begun_with (txn_map t) map locks)
 
--- ---- an edit of a transaction t whose tree was s, over what is held now
+-- ---- an edit of a transaction t whose tree was s, made over these nodes, as what is held now shows
 
-module _ (h : Held) (t : TxnState) (s : Tree) (new : TxnTree) (after : ChangeMap) (op : EditOp)
+module _ (over h : Held) (t : TxnState) (s : Tree) (new : TxnTree) (after : ChangeMap) (op : EditOp)
     (was : IsMapOf s t.tree)
-    (tree : (q : PathValue) → txn_tree h.nodes new q ≡ edited (trees_in (revisions_of h)) s op q)
+    (tree : (q : PathValue) → txn_tree over.nodes new q ≡ edited (trees_in (revisions_of h)) s op q)
     (changes : (q : PathValue) → get after q ≡ changes_after (changes_of t.changes) op q) where
-  same : (q : PathValue) → txn_tree h.nodes new q
+  same : (q : PathValue) → txn_tree over.nodes new q
       ≡ edited (trees_in (revisions_of h)) (tree_of t.tree) op q
   same q = tree q ∙ ap (λ (x : Tree). edited (trees_in (revisions_of h)) x op q)
       (λ i p. sym (was p) i)
 
   -- with any map of its tree
-  pub edited_with : (m : TreeMap) → IsMapOf (txn_tree h.nodes new) m
+  pub edited_with : (m : TreeMap) → IsMapOf (txn_tree over.nodes new) m
       → IsEdited (revisions_of h) t op (txn_of h t.base m after)
   edited_with m map = record {
     shown_now = refl;
@@ -86,25 +86,25 @@ module _ (h : Held) (t : TxnState) (s : Tree) (new : TxnTree) (after : ChangeMap
     changes = changes;
   }
 
-  pub edited_txn : (u : WorldTxn) → u.shown.value ≡ h → u.base ≡ t.base → u.tree ≡ new
-      → u.changes ≡ after → IsEdited (revisions_of h) t op (txn_state_of u)
-  edited_txn u shown base_is tree_is changes_are =
-      let map : IsMapOf (txn_tree h.nodes new) (txn_map u) = λ q. txn_map_is u q
-      ∙ (λ i. txn_tree ((shown i).nodes) (tree_is i) q) in
+  pub edited_txn : (u : WorldTxn) → u.shown.value ≡ h → u.over.value ≡ over → u.base ≡ t.base
+      → u.tree ≡ new → u.changes ≡ after → IsEdited (revisions_of h) t op (txn_state_of u)
+  edited_txn u shown over_is base_is tree_is changes_are =
+      let map : IsMapOf (txn_tree over.nodes new) (txn_map u) = λ q. txn_map_is u q
+      ∙ (λ i. txn_tree ((over_is i).nodes) (tree_is i) q) in
       subst (IsEdited (revisions_of h) t op)
       (λ i. txn_of (sym shown i) (sym base_is i) (txn_map u) (sym changes_are i))
       (edited_with (txn_map u) map)
 
   pub edited_open : AreSound (revisions_of h) → IsBeginning t.shown (revisions_of h)
       → IsRightEdit (trees_in (revisions_of h)) (tree_of t.tree) op → IsSoundTxn t
-      → IsOpen h t.base new after
+      → IsOpen over h t.base new after
   edited_open sound begins right old =
       let rs = revisions_of h in
       let is_tree : IsTree (edited (trees_in rs) (tree_of t.tree) op) =
       edited_tree rs (tree_of t.tree) op sound.0 old.tree right in
       let m : Mapped (edited (trees_in rs) (tree_of t.tree) op) =
       mapped (edited (trees_in rs) (tree_of t.tree) op) ∣ is_tree ∣₁ in
-      let map : IsMapOf (txn_tree h.nodes new) m.0 = λ q. m.1 q ∙ sym (same q) in
+      let map : IsMapOf (txn_tree over.nodes new) m.0 = λ q. m.1 q ∙ sym (same q) in
       record {
         map = m.0;
         is = map;
@@ -114,10 +114,10 @@ module _ (h : Held) (t : TxnState) (s : Tree) (new : TxnTree) (after : ChangeMap
 
 -- ---- an edit that was not made
 
-pub open_stays : (h : Held) (base : ℕ) (old new : TxnTree) (before after : ChangeMap)
-    → ((q : PathValue) → txn_tree h.nodes new q ≡ txn_tree h.nodes old q) → after ≡ before
-    → IsOpen h base old before → IsOpen h base new after
-open_stays h base old new before after stays same o = record {
+pub open_stays : (over h : Held) (base : ℕ) (old new : TxnTree) (before after : ChangeMap)
+    → ((q : PathValue) → txn_tree over.nodes new q ≡ txn_tree over.nodes old q) → after ≡ before
+    → IsOpen over h base old before → IsOpen over h base new after
+open_stays over h base old new before after stays same o = record {
   map = o.map;
   is = λ q. o.is q ∙ sym (stays q);
   sound = subst (λ cs. IsSoundTxn (txn_of h base o.map cs)) (sym same) o.sound;

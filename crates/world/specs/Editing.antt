@@ -1,5 +1,9 @@
 -- An edit of a transaction.
-use Rattle.repo_api.specs.{RightEdits.IsRightEdit, States.{IsBeginning, tree_of, trees_in}, declared.edit.EditOp.EditOp}
+use Rattle.std.specs.Prelude.{◌≡◌, Bool, true, false}
+use Rattle.svnpath.specs.Paths.{PathValue}
+use Rattle.repo_api.specs.{Edits.edited, RightEdits.IsRightEdit, States.{IsBeginning, tree_of, trees_in}, Trees.Tree}
+use Rattle.repo_api.specs.declared.edit.EditOp.{EditOp}
+use Rattle.repo_api.specs.declared.edit.EditOp.TheVariants.{Copy, Replace}
 use Rattle.history_marks.specs.Sound.{IsSoundRepo}
 use Rattle.held.specs.{Contents.{held_state, revisions_of}, declared.held.Held.Held}
 use Rattle.world.specs.{Whole.txn_state_of, declared.world_txn.WorldTxn.WorldTxn}
@@ -13,3 +17,16 @@ RestsOn txn h =
 abbrev pub IsRightFor : Held → WorldTxn → EditOp → Type 0
 IsRightFor h txn op =
     IsRightEdit (trees_in (revisions_of h)) (tree_of (txn_state_of txn).tree) op
+
+-- it takes what a revision has
+abbrev pub is_copy : EditOp → Bool
+is_copy (Copy source p) = true
+is_copy (Replace source p) = true
+is_copy _ = false
+
+-- an edit may be made of a tree, and comes to the same, over the revisions of the one and of the other
+pub record AreAlikeFor (op : EditOp) (over h : Held) : Type 0 where
+  pub right : (t : Tree) → IsRightEdit (trees_in (revisions_of h)) t op
+      → IsRightEdit (trees_in (revisions_of over)) t op
+  pub same : (t : Tree) (q : PathValue)
+      → edited (trees_in (revisions_of over)) t op q ≡ edited (trees_in (revisions_of h)) t op q

@@ -14,7 +14,7 @@ the_map t mapped = ∥∥₁_elim mapped (one_map t) (λ m. m)
 
 -- what stands at each path of a transaction
 abbrev pub txn_map : WorldTxn → TreeMap
-txn_map t = (the_map (txn_tree t.shown.value.nodes t.tree) (∥∥₁_map t.sound (λ o. (o.map, o.is)))).0
+txn_map t = (the_map (txn_tree t.over.value.nodes t.tree) (∥∥₁_map t.sound (λ o. (o.map, o.is)))).0
 
 abbrev pub txn_state_of : WorldTxn → TxnState
 txn_state_of t = txn_of t.shown.value t.base (txn_map t) t.changes

@@ -60,7 +60,7 @@ fn merged(alloc: Global, held: &Held, txn: &WorldTxn) -> Result<TxnTree, ChangeF
     requires { RestsOn txn.now held.now }
     ensures { MergesTxn result held.now txn.now }
 {
-    let tree = held.moved(alloc, &txn.shown, &txn.tree, txn.base)?;
+    let tree = held.moved(alloc, &txn.over, &txn.tree, txn.base)?;
     match held.merged(alloc, txn.base, &tree) {
         Ok(merged) => Ok(merged),
         Err(CommitFault::Conflict) => Err(ChangeFault::Refused(Refusal::Conflict)),
@@ -107,7 +107,7 @@ fn conflict_in(alloc: Global, held: &Held, txn: &WorldTxn) -> Result<Option<Path
     requires { RestsOn txn.now held.now }
     ensures { IfOk result (IsConflictFor held.now txn.now) }
 {
-    let tree = held.moved(alloc, &txn.shown, &txn.tree, txn.base)?;
+    let tree = held.moved(alloc, &txn.over, &txn.tree, txn.base)?;
     held.conflict(alloc, txn.base, &tree)
 }
 

@@ -1,8 +1,8 @@
 //! Edits of a transaction.
-ghost use Rattle.history_marks.specs.Sound.{IsSoundRepo};
-ghost use Rattle.held.specs.{Contents.{held_state, revisions_of}, Transactions.{EditsTree, IsRightOver}};
+ghost use Rattle.std.specs.Prelude.{◌≡◌};
+ghost use Rattle.held.specs.{Contents.revisions_of, Transactions.{EditsTree, IsRightOver}};
 ghost use Rattle.repo_api.specs.States.{EditsTxn, Notes};
-ghost use Rattle.world.specs.{Editing.{IsRightFor, RestsOn}, Whole.txn_state_of};
+ghost use Rattle.world.specs.{Editing.{AreAlikeFor, IsRightFor, RestsOn, is_copy}, Whole.txn_state_of};
 
 use crate::world_txn::WorldTxn;
 use held::Held;
@@ -12,8 +12,15 @@ use std::alloc::{AllocError, Global};
 use std::sync::Arc;
 use txntree::TxnTree;
 
-/// Makes the edit in the transaction, over revisions that go on from those that it was last shown. Where
-/// they are as many they are the same.
+/// Says whether an edit takes what a revision has, and not only what its transaction has.
+fn is_copy(op: &EditOp) -> bool
+    ensures { result ≡ is_copy op.now }
+{
+    matches!(op, EditOp::Copy(_, _) | EditOp::Replace(_, _))
+}
+
+/// Makes the edit in the transaction, over revisions that go on from those that it was last shown. A tree that is changed is moved
+/// to the nodes of further revisions where it needs them, for a copy, and not at each edit after somebody else's commit.
 pub(crate) fn edit_txn(
     alloc: Global,
     held: &Arc<Held>,
@@ -25,20 +32,28 @@ pub(crate) fn edit_txn(
     ensures { EditsTxn result (revisions_of held.now.value) (txn_state_of txn.old) op.now
         (txn_state_of txn.new) }
 {
-    if txn.shown.count() == held.count() {
-        return edit_here(alloc, txn, op);
+    if !is_copy(op) || txn.over.count() == held.count() {
+        return edit_here(alloc, held, txn, op);
     }
     edit_there(alloc, held, txn, op)
 }
 
-/// Makes the edit over what the transaction was last shown.
-fn edit_here(alloc: Global, txn: &mut WorldTxn, op: &EditOp) -> Result<(), AllocError>
-    requires sound { ∥ IsSoundRepo (held_state txn.old.shown.value) ∥₁ }
-    requires right { IsRightFor txn.old.shown.value txn.old op.now }
-    ensures { EditsTxn result (revisions_of txn.old.shown.value) (txn_state_of txn.old) op.now
+/// Makes the edit over the nodes where the tree stands, which show for it what is held now.
+fn edit_here(
+    alloc: Global,
+    held: &Arc<Held>,
+    txn: &mut WorldTxn,
+    op: &EditOp,
+) -> Result<(), AllocError>
+    requires rests { RestsOn txn.old held.now.value }
+    requires right { IsRightFor held.now.value txn.old op.now }
+    requires alike { AreAlikeFor op.now txn.old.over.value held.now.value }
+    ensures { EditsTxn result (revisions_of held.now.value) (txn_state_of txn.old) op.now
         (txn_state_of txn.new) }
 {
-    edit_parts(alloc, &txn.shown, &mut txn.tree, &mut txn.changes, op)?;
+    let shown = Arc::try_clone(held)?;
+    edit_parts(alloc, &txn.over, &mut txn.tree, &mut txn.changes, op)?;
+    txn.shown = shown;
     Ok(())
 }
 
@@ -56,9 +71,11 @@ fn edit_there(
         (txn_state_of txn.new) }
 {
     let shown = Arc::try_clone(held)?;
-    let mut tree = held.moved(alloc, &txn.shown, &txn.tree, txn.base)?;
+    let over = Arc::try_clone(held)?;
+    let mut tree = held.moved(alloc, &txn.over, &txn.tree, txn.base)?;
     edit_parts(alloc, held, &mut tree, &mut txn.changes, op)?;
     txn.shown = shown;
+    txn.over = over;
     txn.tree = tree;
     Ok(())
 }

@@ -147,15 +147,15 @@ impl Repository for World {
     }
 
     fn kind_in(&self, txn: &WorldTxn, path: &Path) -> NodeKind {
-        txn.shown.kind_in(&txn.tree, path)
+        txn.over.kind_in(&txn.tree, path)
     }
 
     fn created_in(&self, txn: &WorldTxn, path: &Path) -> Option<u64> {
-        txn.shown.created_in(&txn.tree, path)
+        txn.over.created_in(&txn.tree, path)
     }
 
     fn text_in<'a>(&'a self, txn: &'a WorldTxn, path: &Path) -> Option<&'a FileText> {
-        txn.shown.text_in(&txn.tree, path)
+        txn.over.text_in(&txn.tree, path)
     }
 
     fn begin(&self) -> Result<WorldTxn, AllocError> {
@@ -164,6 +164,7 @@ impl Repository for World {
         let tree = self.held.begun(self.alloc)?;
         Ok(WorldTxn {
             shown: Arc::try_clone(&self.held)?,
+            over: Arc::try_clone(&self.held)?,
             base: self.held.youngest(),
             tree,
             changes: TxnChanges::new(self.alloc),

@@ -1,9 +1,17 @@
-use Rattle.std.proofs.Common.{sym, ap, ◌∙◌}
+use Rattle.std.proofs.Common.{sym, ap, subst, ◌∙◌}
+use Rattle.repo_api.specs.States.{IsBeginning}
 use Rattle.txntree.specs.Whole.{txn_tree}
-use Rattle.held.specs.{Maps.IsMapOf, declared.held.Held.Held}
+use Rattle.held.specs.{Contents.revisions_of, Maps.IsMapOf, declared.held.Held.Held}
 use Rattle.world.specs.Whole.{txn_map, txn_state_of}
-use Rattle.world.proofs.{Keeping.told_here, Mapping.{txn_map_is, txn_sound}}
+use Rattle.world.proofs.{Keeping.told_here, Lists.{begins_on, goes_on}, Mapping.{txn_map_is, txn_sound}}
 use Rattle.world.proofs.committing.conflict_in.Goals as goal
+
+pub moved-requires-clause-begins : goal.moved-requires-clause-begins
+moved-requires-clause-begins c =
+    let txn = c.args.txn.now in
+    subst (λ (h : Held). IsBeginning (revisions_of h) (revisions_of c.args.held.now)) (sym c.deref.ensures)
+    (begins_on (revisions_of txn.over.value) (revisions_of txn.shown.value) (revisions_of c.args.held.now)
+    (goes_on (revisions_of txn.over.value) (revisions_of txn.shown.value) txn.begins) c.requires.1)
 
 pub conflict-requires-clause-told : goal.conflict-requires-clause-told
 conflict-requires-clause-told c =
