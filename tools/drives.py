@@ -26,6 +26,7 @@ from spelling import (
     delete_entry,
     delete_path,
     delta,
+    diff,
     digest,
     directory_property,
     file_property,
@@ -198,14 +199,25 @@ class Report:
 
     def __init__(
         self, revisions, purpose="update", target="", revision=None, *, anchor="", url=None, recurse=True, depth=None, of_today=False,
-        ignores_ancestry=None
+        ignores_ancestry=None, says_of_texts=True
     ):
         self.revisions = revisions
         self.purpose = purpose
         self.of_today = of_today
-        # it is said after a depth, and not in a status; where nothing is said of it, it counts but in a switch
-        self.says_of_ancestry = None if depth is None or purpose == "status" else ignores_ancestry
+        # a diff is one of clients of today, with texts or, as a summary, without
+        self.is_diff = purpose in ("diff", "summary")
+        self.sends_texts = purpose not in ("status", "summary")
+        self.says_of_texts = says_of_texts or not self.sends_texts or depth is not None
+        assert of_today or not self.is_diff
+        # a diff always says of it; else it is said after a depth, and not in a status; where nothing is said of it, it counts but
+        # in a switch
+        is_said = self.is_diff or depth is not None and purpose != "status"
+        self.says_of_ancestry = ignores_ancestry if is_said else None
         self.ignores_ancestry = purpose == "switch" if self.says_of_ancestry is None else self.says_of_ancestry
+        # of a diff the last change alone says nothing
+        self.counts_changes = not self.is_diff
+        # a switch and a diff lead everything to their URL
+        self.follows_links = purpose in ("update", "status")
         self.anchor = anchor
         self.refusal = None
         self.refused_at = None
@@ -225,6 +237,10 @@ class Report:
             return update(target, number, recurse, word and word + (ancestry or b"false "))
         if self.purpose == "switch":
             return switch(url, target, number, recurse, word and word + ancestry)
+        if self.is_diff:
+            # where nothing is said of texts they are sent
+            texts = boolean(self.sends_texts) if self.says_of_texts else b""
+            return diff(url, target, number, recurse, self.ignores_ancestry, texts + word)
         told = b"" if revision is None and not word else b"( " + number + b") "
         return status(target, recurse, told + word)
 
@@ -392,7 +408,7 @@ class Report:
         aims, left = {}, [(self.target, self.goal, True, True)]
         while left:
             path, own, counts, is_in_directory = left.pop()
-            link = self.link(path) if counts and self.purpose != "switch" else None
+            link = self.link(path) if counts and self.follows_links else None
             place = own if link is None else link
             had = self.had[path].node if counts and path in self.had else None
             node = tree.get(place) if is_in_directory else None
@@ -576,9 +592,10 @@ class Drive:
         if new is None or had is None:
             return new is not had
         old = had.node
-        is_same = (old.text, old.properties, old.last[0]) == (new.text, new.properties, new.last[0])
+        is_changed = self.report.counts_changes and old.last[0] != new.last[0]
+        is_same = (old.text, old.properties) == (new.text, new.properties)
         is_due = self.report.is_stale(path) or self.report.is_written_anew(path)
-        return not is_same or is_due or self.report.is_apart(path)
+        return not is_same or is_changed or is_due or self.report.is_apart(path)
 
     def children(self, path):
         """The paths of what stands in a directory now or then, by the bytes of the names."""
@@ -632,7 +649,7 @@ class Drive:
         old, text = self.old(path, is_anew), self.tree[path].text
         if old and old.text == text:
             return [close_file(token)]
-        if self.report.purpose == "status":
+        if not self.report.sends_texts:
             return [*delta(token, NO_TEXT), close_file(token)]
         return [*delta(token, *whole_text(text)), close_file(token, digest(text))]
 
@@ -830,7 +847,8 @@ class Judge:
 
     def compare(self):
         report, old, new = self.report, {path: had.node for path, had in self.report.old.items()}, self.goal
-        without_texts = report.purpose == "status"
+        without_texts = report.purpose in ("status", "summary")
+        last_counts = report.purpose not in ("diff", "summary")
         for path in sorted({*old, *new, *self.now}):
             made, wanted = self.now.get(path), new.get(path)
             is_right = (made is None) == (wanted is None)
@@ -839,7 +857,7 @@ class Judge:
                 is_right = is_right and (without_texts or made[0] == wanted.text)
             self.judge(is_right, f"what is made of it is not what it should be: {path!r}")
             is_in_both = path in old and path in new
-            is_changed = is_in_both and old[path].last[0] != new[path].last[0]
+            is_changed = is_in_both and last_counts and old[path].last[0] != new[path].last[0]
             is_due = is_changed or is_in_both and (report.is_stale(path) or report.is_written_anew(path))
             self.judge(path in self.named or not is_due, f"nothing is told of it: {path!r}")
             is_other = path not in old or report.is_apart(path) or old[path].text != new[path].text
@@ -854,7 +872,7 @@ class Judge:
                 old.get(place) is None
                 or new.get(place) is None
                 or old[place][:2] != new[place][:2]
-                or old[place].last != new[place].last
+                or last_counts and old[place].last != new[place].last
                 or report.is_stale(place)
                 or report.is_written_anew(place)
                 or report.is_apart(place)

@@ -212,10 +212,10 @@ def listed(client, command):
     return told
 
 
-def asks(row, what, answer, *given, most=None):
+def asks(row, what, answer, *given, most=None, **words):
     """A client asks for something, and takes it, for which a processor may have at most so many seconds. Gives what it is told, which
     is nothing where that takes too long."""
-    client, told = row.client(timeout=row.patience()), []
+    client, told = row.client(timeout=row.patience(), **words), []
     try:
         with row.attack(what) as cost:
             told = answer(client, *given)
@@ -232,10 +232,10 @@ def told_in_journal(row, part):
     return sum(part in line for line in row.server.journal.read_text().splitlines())
 
 
-def goes_within(row, what, command):
+def goes_within(row, what, command, **words):
     """A client sends a command that takes long, and goes: its session has to end within a second. Gives how long it took. It takes
     what has come, as else the system tells the server that it has gone."""
-    client = row.client()
+    client = row.client(**words)
     client.send(command)
     time.sleep(0.2)
     client.socket.setblocking(False)

@@ -1,9 +1,12 @@
 """The rows of `heavy-load` that ask for the history of many revisions."""
 
+import os
+
 import spelling
-from clients import URL, edit
-from heavy import asks, goes_within, listed
-from spelling import add_directory, add_file, close_file, delete_entry, open_directory, open_file, string
+from clients import URL, edit, mebibytes
+from heavy import MEBIBYTE, PLACES, asks, goes_within, listed
+from heavy_work import TEXT, WINDOW, copied
+from spelling import NO_TEXT, add_directory, add_file, close_file, delete_entry, delta, document, open_directory, open_file, string, window
 
 # how many paths and revisions are named in one command: as many as an item has room for without a user, but for some
 NAMED = 190_000
@@ -11,6 +14,9 @@ NAMED = 190_000
 DATES = 1_000
 # for how many seconds a processor may work at the locations, and at the log, of one command
 LOCATED_WITHIN, LOGGED_WITHIN = 1, 20
+# for how many seconds a processor may work at the revisions of a file with short texts, and how much memory a session takes beside a
+# text that it is sent, in MiB
+BLAMED_WITHIN, BLAME_LIMIT = 1, 4
 
 
 def changes(client, count, commands):
@@ -84,3 +90,73 @@ def dates(row):
     alice.ask(spelling.change_revision_property(last, "svn:date", spelling.date(2)))
     asks(row, f"{DATES:,} old dates, where the youngest of {last} revisions is the oldest", answered, ask, DATES)
     goes_within(row, f"{20 * DATES:,} of them", ask * 20 * DATES)
+
+
+def growing_text(number, size):
+    """An svndiff document over a text of this size, by which the first bytes of its first window are others."""
+    first = window(0, WINDOW, WINDOW, b"\x88" + copied(WINDOW - 8, 8), b"%08d" % number)
+    others = (window(begin, WINDOW, WINDOW, copied(WINDOW, 0), b"") for begin in range(WINDOW, size, WINDOW))
+    return NO_TEXT + first + b"".join(others)
+
+
+def with_long_texts(client, path, size, count):
+    """A file of so many revisions, each with a text of this size. Gives the last revision."""
+    edit(client, add_file(path, "d0", "c1"), *delta("c1", document(os.urandom(WINDOW))), close_file("c1"))
+    pieces = b"".join(window(0, WINDOW, WINDOW, copied(WINDOW, 0), b"") for _ in range(size // WINDOW))
+    edit(client, open_file(path, "d0", "c1"), *delta("c1", NO_TEXT + pieces), close_file("c1"))
+    return changes(client, count, lambda number: [open_file(path, "d0", "c1"), *delta("c1", growing_text(number, size)), close_file("c1")])
+
+
+def blamed(client, command):
+    """How many bytes of the texts of a file's revisions come, and how many revisions."""
+    client.send(command)
+    client.succeed()
+    length = count = 0
+    while (found := client.item()) != "done":
+        if isinstance(found, list):
+            count += 1
+        else:
+            length += len(found)
+    client.succeed()
+    return length, count
+
+
+def blames(row):
+    """The revisions of a file with their texts: of one that takes them, of many that take nothing, and of those that go."""
+    count, alice, today = row.options.revisions, row.client("alice"), {"is_of_today": True}
+    many = count // 8
+    with row.attack(f"{many} commits of a text of 1 MiB, of which eight bytes differ"):
+        last = with_long_texts(alice, "long", MEBIBYTE, many)
+    with row.attack("4 commits of a text of 16 MiB, of which eight bytes differ"):
+        with_long_texts(alice, "longest", TEXT, 4)
+    edit(alice, add_file("short", "d0", "c1") + close_file("c1"))
+    begin = open_file("short", "d0", "c1")
+    changes(alice, count, lambda number: [begin, *delta("c1", document(b"%d" % number)), close_file("c1")])
+    of_long, of_longest = spelling.file_revisions("long", 0, last), spelling.file_revisions("longest", 0)
+    of_short = spelling.file_revisions("short", 0)
+    for what, command, most in (
+        (f"the {many + 2} revisions of a file with texts of 1 MiB", of_long, None),
+        ("the same from the newest", spelling.file_revisions("long", last, 0), None),
+        (f"the {count:,} revisions of a file with short texts", of_short, BLAMED_WITHIN),
+        ("the newest of them alone", spelling.file_revisions("short"), BLAMED_WITHIN),
+    ):
+        told = asks(row, what, blamed, command, most=most, **today)
+        row.say(f"{what}: {told[1] if told else 0:,} revisions, whose texts are told in {told[0] if told else 0:,} bytes")
+    for what, command, length in (("those with texts of 1 MiB", of_long, MEBIBYTE), ("those with texts of 16 MiB", of_longest, TEXT)):
+        takes_no_text(row, what, command, length, today)
+    if row.is_other:
+        return
+    goes_within(row, "the revisions with texts of 1 MiB", of_long, **today)
+    goes_within(row, "a hundred times the revisions with short texts", of_short * 100, **today)
+
+
+def takes_no_text(row, what, command, length, today):
+    """All clients but one ask for the revisions of a file, and take nothing of them: each may have one text in memory. Then they go."""
+    clients = [row.client(**today) for _ in range(PLACES - 1)]
+    with row.attack(f"{len(clients)} ask for {what}, and take nothing") as cost:
+        for client in clients:
+            client.send(command)
+        row.settle()
+    if cost.memory > len(clients) * (length + BLAME_LIMIT * MEBIBYTE) / 1024:
+        row.fail(f"{len(clients)} that ask for {what} take {mebibytes(cost.memory)}")
+    row.vanish(*clients)

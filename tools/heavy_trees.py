@@ -8,11 +8,15 @@ from heavy import DONE_WITHIN, MEBIBYTE, PLACES, goes_within, listed, timed
 from spelling import CLOSE_EDIT, FINISH_REPORT, add_directory, add_file, close_file, delta, document, open_directory, open_file, string
 
 
-def tower(client, tops, copies):
+def made(top):
+    """A directory with a file."""
+    return [add_directory(top, "d0", top), add_file(f"{top}/f", top, "c1"), *delta("c1", document(b"hello")), close_file("c1")]
+
+
+def tower(client, tops, copies, begun=made):
     """Directories with a file, each of which is copied into itself, all by the same commits. Gives the last revision, and the
     longest time that a copy took."""
-    made = ([add_directory(top, "d0", top), add_file(f"{top}/f", top, "c1"), *delta("c1", document(b"hello")), close_file("c1")] for top in tops)
-    revision, slowest = edit(client, *sum(made, [])), 0
+    revision, slowest = edit(client, *sum(map(begun, tops), [])), 0
     for number in range(1, copies + 1):
         copied = []
         for top in tops:
@@ -37,6 +41,13 @@ def switch_of(old, new, revision):
     return ask + spelling.set_path("", revision) + FINISH_REPORT
 
 
+def diff_of(old, new, revision, ignores_ancestry=True, sends_texts=True):
+    """A diff of one directory to another, of which the client has all that is in a revision."""
+    rest = spelling.boolean(sends_texts) + b"infinity "
+    ask = spelling.reparent(f"{URL}/{old}") + spelling.diff(f"{URL}/{new}", ignores_ancestry=ignores_ancestry, rest=rest)
+    return ask + spelling.set_path("", revision) + FINISH_REPORT
+
+
 def driven(client, commands, seconds):
     """What a drive sends up to its end, or for so many seconds; and whether it has come to its end."""
     told, until = [], time.monotonic() + seconds
@@ -55,9 +66,9 @@ def entries_in(told):
     return sum(item[0] in ("open-dir", "open-file", "add-dir", "add-file", "delete-entry") for item in told)
 
 
-def drive(row, what, *commands):
+def drive(row, what, *commands, **words):
     """A drive that is read for some seconds, and then cut off. It has to send, and to end."""
-    client, came, begun, first = row.client("bob"), 0, time.monotonic(), None
+    client, came, begun, first = row.client("bob", **words), 0, time.monotonic(), None
     stream, seconds = ItemStream(), row.options.seconds
     client.send(b"".join(commands))
     client.socket.settimeout(0.2)
@@ -70,7 +81,7 @@ def drive(row, what, *commands):
             break
         came += len(piece)
         for told in stream.feed(piece):
-            if first is None and told[0] in ("add-dir", "open-dir"):
+            if first is None and told[0] in ("add-dir", "open-dir", "add-file"):
                 first = time.monotonic() - begun
     row.say(f"{what}: {came / seconds / MEBIBYTE:.2f} MiB a second, the first directory {'never' if first is None else f'after {first * 1000:.0f} ms'}")
     if first is None:
@@ -168,9 +179,50 @@ def alike(row):
         has_nothing(row, f"{PLACES - 1} such switches at once", PLACES - 1, switch, seconds)
 
 
-def has_nothing(row, what, count, commands, seconds):
+def compared(row):
+    """Diffs of two trees of a million million entries, which differ in nothing but when they were changed, and in their history; and
+    of two trees of many directories."""
+    count, width, alice, seconds = row.options.copies, row.options.width, row.client("alice"), row.options.seconds
+    with row.attack(f"{count} copies of /p into itself, then of /q, and then of /r, which begins as /p does by a copy of the same"):
+        copied = string(f"{URL}/o") + b"%d " % edit(alice, *made("o"))
+
+        def of_one_line(top):
+            return [add_directory(top, "d0", top, copied)]
+
+        for top, begun in (("p", of_one_line), ("q", made), ("r", of_one_line)):
+            revision, _slowest = tower(alice, top, count, begun)
+    today = {"is_of_today": True}
+    for what, ask in (
+        ("a diff", diff_of("p", "q", revision)),
+        ("a diff without texts", diff_of("p", "q", revision, sends_texts=False)),
+        ("a diff by ancestry of two of one line", diff_of("p", "r", revision, ignores_ancestry=False)),
+    ):
+        has_nothing(row, what, 1, ask, seconds, **today)
+        if not row.is_other:
+            has_nothing(row, f"{PLACES - 1} times {what} at once", PLACES - 1, ask, seconds, **today)
+    by_ancestry = diff_of("p", "q", revision, ignores_ancestry=False)
+    drive(row, "a diff of them by ancestry, which is of everything", by_ancestry, **today)
+    if row.is_other:
+        # so many directories take it many minutes
+        return
+    with row.attack(f"two commits of {width * (width + 1) + 1:,} directories"):
+        many(alice, "a", width)
+        revision = many(alice, "b", width)
+    ask = diff_of("a", "b", revision)
+    with row.attack(f"a diff of directories of {width * (width + 1):,} that differ in when they were made alone") as cost:
+        told, _is_over = driven(row.client(**today), ask, row.patience())
+    row.say(f"it is told {len(told):,} items, of {entries_in(told):,} entries")
+    if entries_in(told):
+        row.fail("a diff of what differs in when it was made alone names something")
+    for what, further in (("such a diff", b""), ("such a diff, with a byte that is not read", b"(")):
+        took = goes_within(row, what, ask + further, **today)
+        if took > cost.seconds / 4:
+            row.fail(f"the search of a client that goes within {what} goes on for {took:.2f} s")
+
+
+def has_nothing(row, what, count, commands, seconds, **words):
     """Drives of clients that come together have to say nothing, and to end at once."""
-    clients = [row.client() for _ in range(count)]
+    clients = [row.client(**words) for _ in range(count)]
     with row.attack(what) as cost:
         for client in clients:
             client.send(commands)

@@ -221,8 +221,27 @@ def deleted_revision(path, peg, end):
     return b"( get-deleted-rev ( " + string(path) + b"%d %d ) ) " % (peg, end)
 
 
+def file_revisions(path, start=None, end=None, rest=b""):
+    """The revisions of a file, with its texts. What may be left out at the end is whether merged ones are wanted, too."""
+    return b"( get-file-revs ( " + string(path) + revision_or_none(start) + revision_or_none(end) + rest + b") ) "
+
+
+def file_revision(path, revision, properties, changes=(), text=None):
+    """A revision of a file: its path there, which has a slash in front, the properties of the revision, what differs in those of
+    the file, each a name and a value, or None where it is gone, and its text, or None where that is the one sent before."""
+    told = b"".join(b"( " + string(name) + optional(value) + b") " for name, value in changes)
+    head = string(path) + b"%d " % revision + sorted_pairs(properties) + b"( " + told + b") false "
+    return b"( " + head + b") " + b"".join(map(string, [*([] if text is None else whole_text(text)), b""]))
+
+
+def file_revisions_told(*revisions):
+    """The answer to `get-file-revs`."""
+    return NO_LOGIN + b"".join(revisions) + DONE + EMPTY
+
+
 def listing_refused(number, path=None):
-    """What `log`, `get-locations` and `get-location-segments` are told where they are refused: behind the end of a listing."""
+    """What `log`, `get-locations`, `get-location-segments` and `get-file-revs` are told where they are refused: behind the end of a
+    listing."""
     return NO_LOGIN + DONE + refusal(number, path)
 
 
@@ -478,6 +497,13 @@ def update(target="", revision=b"", recurse=True, rest=b""):
 def switch(url, target="", revision=b"", recurse=True, rest=b""):
     """It is to be as a revision has it at this URL."""
     return b"( switch ( ( " + revision + b") " + string(target) + boolean(recurse) + string(url) + rest + b") ) "
+
+
+def diff(url, target="", revision=b"", recurse=True, ignores_ancestry=True, rest=b""):
+    """What leads from what a client has to what a revision has at this URL is to be told, by what entries are. What may be
+    left out at the end is whether texts are sent, and how deep it goes."""
+    wishes = boolean(recurse) + boolean(ignores_ancestry)
+    return b"( diff ( ( " + revision + b") " + string(target) + wishes + string(url) + rest + b") ) "
 
 
 def status(target="", recurse=True, rest=b""):

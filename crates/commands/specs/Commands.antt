@@ -5,13 +5,13 @@ use Rattle.items.specs.Values.{ItemValue, ItemValues, more, none}
 use Rattle.wire_forms.specs.Forms.{◌>>=◌, command_form, number_first, string_first, list_first, flag_first, revision_first, items_in, optional_number}
 use Rattle.wire_forms.specs.{Forms.{optional_string, pairs, strings, numbers}, Names.named, declared.fault.CommandFault.CommandFault}
 use Rattle.wire_forms.specs.declared.fault.CommandFault.TheVariants.{UnknownName, BadParameters}
-use Rattle.wire_reports.specs.Asking.{update, switch, status}
+use Rattle.wire_reports.specs.Asking.{update, switch, status, diff}
 use Rattle.commands.specs.{Logins.are_words, declared.command.CommandName.CommandName, declared.command.MainCommand.MainCommand}
-use Rattle.commands.specs.declared.command.DriveCommand.TheVariants.{Update, Switch, Status}
+use Rattle.commands.specs.declared.command.DriveCommand.TheVariants.{Update, Switch, Status, Diff}
 use Rattle.commands.specs.declared.command.MainCommand.TheVariants.{Read, Drive, Commit, AbortEdit, Lock, Unlock, ChangeRevProp, Reparent}
 use Rattle.commands.specs.declared.command.ReadCommand.TheVariants.{GetLatestRev, CheckPath, RevProplist, GetLock, GetLocks, GetFile, GetDir, Stat, GetDatedRev}
 use Rattle.commands.specs.declared.command.ReadCommand.TheVariants.{RevProp, Log, GetLocations, History}
-use Rattle.commands.specs.declared.command.HistoryCommand.TheVariants.{GetLocationSegments, GetDeletedRev}
+use Rattle.commands.specs.declared.command.HistoryCommand.TheVariants.{GetLocationSegments, GetDeletedRev, GetFileRevs}
 use Rattle.commands.specs.declared.command.CommandName.TheVariants as names
 use Rattle.repo_api.specs.{declared.property_ask.PreviousValue.PreviousValue, declared.property_ask.PreviousValue.TheVariants.{Any, Exactly}}
 
@@ -246,6 +246,21 @@ get_deleted_rev params = do
   (end, _) ← number_first rest
   Some (Read (History (GetDeletedRev (record { path = path; peg = peg; end = end }))))
 
+-- `? include-merged`: false where there is none
+abbrev pub merged_at_end : ItemValues → Option Bool
+merged_at_end none = Some false
+merged_at_end items = option_map (λ first. first.0) (flag_first items)
+
+-- `( path [ start ] [ end ] ? include-merged )`
+abbrev pub get_file_revs : ItemValues → Option MainCommand
+get_file_revs params = do
+  (path, rest) ← string_first params
+  (start, rest) ← revision_first rest
+  (end, rest) ← revision_first rest
+  merged ← merged_at_end rest
+  Some (Read (History (GetFileRevs
+      (record { path = path; start = start; end = end; wants_merged = merged }))))
+
 -- the names of the commands, as any client sends them
 abbrev pub command_names : List (List ℕ × CommandName)
 command_names =
@@ -278,6 +293,8 @@ abbrev pub names_of_today : List (List ℕ × CommandName)
 names_of_today =
     (codes "get-location-segments", names.GetLocationSegments)
     ∷ (codes "get-deleted-rev", names.GetDeletedRev)
+    ∷ (codes "get-file-revs", names.GetFileRevs)
+    ∷ (codes "diff", names.Diff)
     ∷ []
 
 -- the command of this name, for a client of today: to another it is unknown
@@ -316,9 +333,11 @@ main_command_with names.Log params = log_command params
 main_command_with names.GetLocations params = get_locations params
 main_command_with names.GetLocationSegments params = get_location_segments params
 main_command_with names.GetDeletedRev params = get_deleted_rev params
+main_command_with names.GetFileRevs params = get_file_revs params
 main_command_with names.Update params = option_map (λ r. Drive (Update r)) (update params)
 main_command_with names.Switch params = option_map (λ p. Drive (Switch p.0 p.1)) (switch params)
 main_command_with names.Status params = option_map (λ r. Drive (Status r)) (status params)
+main_command_with names.Diff params = option_map (λ r. Drive (Diff r)) (diff params)
 
 -- the command of a name and its parameters, or why there is none
 abbrev pub main_command_named : Bool → List ℕ → ItemValues → Result MainCommand CommandFault

@@ -5,7 +5,7 @@ ghost use Rattle.wire_forms.specs.Answering.{Answers, Reads};
 ghost use Rattle.commands.specs.Commands.{main_command, main_command_name, main_command_with, check_path, rev_proplist, locks_first, properties_at_end, commit};
 ghost use Rattle.commands.specs.Commands.{lock, unlock, get_lock, get_locks, path_first, get_file, get_dir, has_fields, stat, get_dated_rev, rev_prop};
 ghost use Rattle.commands.specs.Commands.{change_rev_prop, change_rev_prop2, previous_value, reparent, limit_at_end, log_command, get_locations};
-ghost use Rattle.commands.specs.Commands.{get_deleted_rev, get_location_segments, name_of_today};
+ghost use Rattle.commands.specs.Commands.{get_deleted_rev, get_file_revs, get_location_segments, merged_at_end, name_of_today};
 
 use crate::login::are_words;
 use byte_string::ByteString;
@@ -14,11 +14,11 @@ use repo_api::{PreviousValue, PropertyAsk};
 use std::alloc::Global;
 use wire_forms::CommandFault::{self, BadParameters, UnknownName};
 use wire_forms::{
-    Numbers, Pairs, Strings, copy_optional, named, read_flag, read_form, read_items, read_list,
-    read_number, read_numbers, read_optional_number, read_optional_string, read_pairs,
+    Numbers, Pairs, Strings, copy_optional, named, read_boolean, read_flag, read_form, read_items,
+    read_list, read_number, read_numbers, read_optional_number, read_optional_string, read_pairs,
     read_revision, read_string, read_strings,
 };
-use wire_reports::{DriveRequest, read_status, read_switch, read_update};
+use wire_reports::{DiffRequest, DriveRequest, read_diff, read_status, read_switch, read_update};
 
 /// What a `commit` hands in.
 #[derive(Drop)]
@@ -127,6 +127,18 @@ pub struct GetDeletedRevCommand {
     pub end: u64,
 }
 
+/// What a `get-file-revs` asks for.
+#[derive(Drop)]
+pub struct GetFileRevsCommand {
+    pub path: ByteString,
+    /// The revision that comes first, or `None` for the youngest.
+    pub start: Option<u64>,
+    /// The revision that comes last, or `None` for the youngest.
+    pub end: Option<u64>,
+    /// Whether the revisions that were merged into the file are to be sent too.
+    pub wants_merged: bool,
+}
+
 /// A command of clients of today alone that reads the history of a path, with its parameters.
 #[derive(Drop)]
 pub enum HistoryCommand {
@@ -134,6 +146,8 @@ pub enum HistoryCommand {
     GetLocationSegments(GetLocationSegmentsCommand),
     /// In which revision something was taken away: `( get-deleted-rev ( path peg end ) )`.
     GetDeletedRev(GetDeletedRevCommand),
+    /// The revisions of a file with their texts: `( get-file-revs ( path [ start ] [ end ] ? include-merged ) )`.
+    GetFileRevs(GetFileRevsCommand),
 }
 
 /// A command that only reads the repository, with its parameters.
@@ -182,6 +196,10 @@ pub enum DriveCommand {
     /// What an update would bring, without the texts:
     /// `( status ( target recurse ? [ rev ] ? depth ) )`.
     Status(DriveRequest),
+    /// What leads from what the client has to what exists at another URL, by what entries are and not by when they were
+    /// changed, for a client of today:
+    /// `( diff ( [ rev ] target recurse ignore-ancestry url ? text-deltas ? depth ) )`.
+    Diff(DiffRequest),
 }
 
 /// A command outside an edit or a report, with its parameters.
@@ -247,9 +265,11 @@ pub enum CommandName {
     GetLocations,
     GetLocationSegments,
     GetDeletedRev,
+    GetFileRevs,
     Update,
     Switch,
     Status,
+    Diff,
 }
 
 /// The names of the commands, as any client sends them.
@@ -279,9 +299,11 @@ const COMMAND_NAMES: [(&[u8], CommandName); 22] = [
 ];
 
 /// The names of those that clients of today alone send.
-const NAMES_OF_TODAY: [(&[u8], CommandName); 2] = [
+const NAMES_OF_TODAY: [(&[u8], CommandName); 4] = [
     (b"get-location-segments", CommandName::GetLocationSegments),
     (b"get-deleted-rev", CommandName::GetDeletedRev),
+    (b"get-file-revs", CommandName::GetFileRevs),
+    (b"diff", CommandName::Diff),
 ];
 
 /// Finds the command of this name that clients of today alone send, for a client of today or for another.
@@ -335,12 +357,14 @@ fn read_command(
         CommandName::GetLocations => read_get_locations(alloc, params),
         CommandName::GetLocationSegments => read_get_location_segments(params),
         CommandName::GetDeletedRev => read_get_deleted_rev(params),
+        CommandName::GetFileRevs => read_get_file_revs(params),
         CommandName::Update => Ok(MainCommand::Drive(DriveCommand::Update(read_update(params)?))),
         CommandName::Switch => {
             let (request, url) = read_switch(params)?;
             Ok(MainCommand::Drive(DriveCommand::Switch(request, url)))
         }
         CommandName::Status => Ok(MainCommand::Drive(DriveCommand::Status(read_status(params)?))),
+        CommandName::Diff => Ok(MainCommand::Drive(DriveCommand::Diff(read_diff(params)?))),
     }
 }
 
@@ -657,4 +681,30 @@ fn read_get_deleted_rev(params: &[Item]) -> Result<MainCommand, CommandFault>
             end,
         },
     ))))
+}
+
+/// Reads `? include-merged`: false where there is none.
+fn read_merged(items: &[Item]) -> Option<bool>
+    ensures { result ≡ merged_at_end (values_of items.now) }
+{
+    match items {
+        [] => Some(false),
+        [merged, ..] => read_boolean(merged),
+    }
+}
+
+/// Reads `( path [ start ] [ end ] ? include-merged )`.
+fn read_get_file_revs(params: &[Item]) -> Result<MainCommand, CommandFault>
+    ensures { Reads result (get_file_revs (values_of params.now)) }
+{
+    let (path, rest) = read_string(params).ok_or(BadParameters)?;
+    let (start, rest) = read_revision(rest).ok_or(BadParameters)?;
+    let (end, rest) = read_revision(rest).ok_or(BadParameters)?;
+    let wants_merged = read_merged(rest).ok_or(BadParameters)?;
+    Ok(MainCommand::Read(ReadCommand::History(HistoryCommand::GetFileRevs(GetFileRevsCommand {
+        path: path.clone()?,
+        start,
+        end,
+        wants_merged,
+    }))))
 }

@@ -6,7 +6,7 @@ mod login;
 
 pub use command::{
     CommandName, CommitCommand, DriveCommand, GetDeletedRevCommand, GetDirCommand, GetFileCommand,
-    GetLocationSegmentsCommand, GetLocationsCommand, HistoryCommand, LockCommand, LogCommand,
-    MainCommand, ReadCommand, UnlockCommand,
+    GetFileRevsCommand, GetLocationSegmentsCommand, GetLocationsCommand, HistoryCommand,
+    LockCommand, LogCommand, MainCommand, ReadCommand, UnlockCommand,
 };
 pub use login::{AuthResponse, ClientGreeting, challenge_answer};

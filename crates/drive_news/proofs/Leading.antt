@@ -9,7 +9,7 @@ use Rattle.repo_api.specs.{declared.entry.Content.TheVariants.{Directory, File},
 use Rattle.drive_rules.specs.Steps.{after_steps, all_meet, empty_content, has_step, is_entry_property, is_of_kind, is_text, IsOwn, no_properties, Node, node_of}
 use Rattle.drive_rules.specs.{Steps.{property_values, PropertyValues, Step}, Steps.EntryKind.FileKind, Steps.Step.PropertyAt}
 use Rattle.drive_rules.proofs.Joined.{any_append, and_front, or_right}
-use Rattle.drive_reports.specs.{declared.ask.Purpose.Purpose, declared.ask.Purpose.TheVariants.{Update, Switch, Status}}
+use Rattle.drive_reports.specs.{declared.ask.Purpose.Purpose, declared.ask.Purpose.TheVariants.{Update, Switch, Status, Diff, Summary}}
 use Rattle.reporter.specs.{Own.{Change, property_steps, text_steps, own_steps, content_with_text, LeadTo}, Visits.kind_if, Walks.{LeadsOver, blank}}
 use Rattle.reporter.proofs.Owning.{own_becomes, own_is, own_meets}
 use Rattle.drive_wire.specs.{EntryProperties.entry_property, Sent.seen_by}
@@ -61,6 +61,8 @@ sent : (purpose : Purpose) (text : List ℕ) (values : PropertyValues) → seen_
 sent Update text values = refl
 sent Switch text values = refl
 sent Status text values = refl
+sent Diff text values = refl
+sent Summary text values = refl
 
 opened_content : (purpose : Purpose) (a b : Content) (values : PropertyValues) → is_directory_content a ≡ is_directory_content b
     → seen_by purpose (content_with_text (text_told purpose (content_text a) b) a, values) ≡ seen_by purpose (b, values)

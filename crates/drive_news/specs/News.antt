@@ -9,7 +9,7 @@ use Rattle.wire_forms.specs.Forms.{is_name}
 use Rattle.drive_rules.specs.Steps.{is_entry_property, Step}
 use Rattle.reporter.specs.{Own.{Change, property_steps, text_steps}, Visits.OwnSteps}
 use Rattle.drive_reports.specs.{Targets.{WholeReport, old_tree, new_tree, stale_in}, declared.ask.Purpose.Purpose}
-use Rattle.drive_reports.specs.declared.ask.Purpose.TheVariants.{Update, Switch, Status}
+use Rattle.drive_reports.specs.declared.ask.Purpose.TheVariants.{Update, Switch, Status, Diff, Summary}
 use Rattle.drive_wire.specs.EntryProperties.{entry_property}
 use Rattle.drive_news.specs.declared.news.News.{News}
 
@@ -45,11 +45,13 @@ property_changes old new =
 
 -- ---- the text
 
--- a status sends no texts
+-- a status and a summary send no texts
 abbrev pub text_sent : Purpose → List ℕ → List ℕ
 text_sent Update text = text
 text_sent Switch text = text
 text_sent Status text = []
+text_sent Diff text = text
+text_sent Summary text = []
 
 -- the text of a file, unless it is the one that the client has
 abbrev pub other_text : Option (List ℕ) → Option (List ℕ) → Option (List ℕ)

@@ -1,5 +1,5 @@
 -- Entries at their places.
-use Rattle.std.specs.Prelude.{◌≡◌, Bool, true, false, Option, option_map, option_and_then}
+use Rattle.std.specs.Prelude.{◌≡◌, Bool, true, false, IsTrue, Option, option_map, option_and_then}
 use Rattle.repo_api.specs.{States.{RepoState, trees_in}, Trees.revision_of, declared.entry.Content.Content, declared.entry.Entry.Entry}
 use Rattle.drive_rules.specs.Steps.{node_of}
 use Rattle.drive_reports.specs.Reported.{top_entry}
@@ -26,19 +26,21 @@ news_seen c sight =
 abbrev pub entry_content : Option Entry → Option Content
 entry_content e = option_map (λ (x : Entry). x.content) e
 
--- presence, kind, text, properties or the last change differ
-abbrev pub AreUnlike : Option Entry → Option Entry → Type 0
-AreUnlike e f =
+-- presence, kind, text, properties or, where it counts, the last change differ
+abbrev pub AreUnlike : Bool → Option Entry → Option Entry → Type 0
+AreUnlike changes e f =
     (option_map node_of e ≡ option_map node_of f)
-    × (option_map (λ (x : Entry). x.last) e ≡ option_map (λ (x : Entry). x.last) f) → ⊥
+    × (IsTrue changes
+    → option_map (λ (x : Entry). x.last) e ≡ option_map (λ (x : Entry). x.last) f) → ⊥
 
--- presence, kind, text, properties and the revision of the last change are the same
-abbrev pub AreLike : Option Entry → Option Entry → Type 0
-AreLike e f =
+-- presence, kind, text, properties and, where it counts, the revision of the last change are the same
+abbrev pub AreLike : Bool → Option Entry → Option Entry → Type 0
+AreLike changes e f =
     (option_map node_of e ≡ option_map node_of f)
-    × (option_map (λ x. revision_of x.last) e ≡ option_map (λ x. revision_of x.last) f)
+    × (IsTrue changes
+    → option_map (λ x. revision_of x.last) e ≡ option_map (λ x. revision_of x.last) f)
 
--- an answer to whether two entries differ
-abbrev pub Compares : Bool → Option Entry → Option Entry → Type 0
-Compares true e f = AreUnlike e f
-Compares false e f = AreLike e f
+-- an answer to whether two entries differ, where the last change counts or not
+abbrev pub Compares : Bool → Bool → Option Entry → Option Entry → Type 0
+Compares changes true e f = AreUnlike changes e f
+Compares changes false e f = AreLike changes e f

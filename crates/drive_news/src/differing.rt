@@ -1,30 +1,43 @@
 //! Whether two entries differ.
 ghost use Rattle.std.specs.Prelude.{◌≡◌, true, false, Decides, IfOk, option_map};
 ghost use Rattle.drive_rules.specs.Steps.{node_of};
+ghost use Rattle.drive_wire.specs.Sent.{counts_changes};
 ghost use Rattle.drive_news.specs.Places.{Compares, entry_at, entry_content, entry_had};
 
 use crate::had::{had_created, had_kind, had_properties, had_text};
 use crate::news::{Had, Place};
 use crate::property_changes::are_same_properties;
 use crate::texts::are_same_texts;
+use drive_reports::Purpose;
 use repo_api::{Properties, Repository};
 use std::alloc::{AllocError, Global};
 
-/// Says whether an entry differs from what a client has of it, by their last changes' revisions, their kinds, their
-/// texts and their properties. What does not differ may still be of two changes of one revision.
+/// Says whether the last change of an entry counts in a drive.
+fn counts_changes(purpose: Purpose) -> bool
+    ensures { result ≡ counts_changes purpose }
+{
+    match purpose {
+        Purpose::Update | Purpose::Switch | Purpose::Status => true,
+        Purpose::Diff | Purpose::Summary => false,
+    }
+}
+
+/// Says whether an entry differs from what a client has of it, by their kinds, their texts, their properties and, where
+/// they count, their last changes' revisions. What does not differ may still be of two changes of one revision.
 pub fn entries_differ<R: Repository>(
     alloc: Global,
     view: &R,
+    purpose: Purpose,
     old: Had<'_>,
     new: Place<'_>,
 ) -> Result<bool, AllocError>
-    ensures { IfOk result (λ answer. Compares answer (entry_had (R.content view.now) old.entry)
-        (entry_at (R.content view.now) new.entry)) }
+    ensures { IfOk result (λ answer. Compares (counts_changes purpose) answer
+        (entry_had (R.content view.now) old.entry) (entry_at (R.content view.now) new.entry)) }
 {
     if is_same_place(old, new) {
         return Ok(false);
     }
-    if had_created(view, old) != view.created(new.revision, new.path) {
+    if counts_changes(purpose) && had_created(view, old) != view.created(new.revision, new.path) {
         return Ok(true);
     }
     Ok(!is_same_node(alloc, view, old, new)?)

@@ -40,13 +40,15 @@ pub(crate) fn other_text<'a>(
     }
 }
 
-/// Gives the text as it is sent: a status sends no texts. It is shared, and not copied.
+/// Gives the text as it is sent: a status and a summary send no texts. It is shared, and not copied.
 pub(crate) fn text_sent(purpose: Purpose, text: &FileText) -> Result<FileText, AllocError>
     ensures { IfOk result (λ sent. sent ≡ text_sent purpose text.now) }
 {
     match purpose {
         Purpose::Update => text.clone(),
         Purpose::Switch => text.clone(),
+        Purpose::Diff => text.clone(),
         Purpose::Status => Ok(FileText::empty()),
+        Purpose::Summary => Ok(FileText::empty()),
     }
 }

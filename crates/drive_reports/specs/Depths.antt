@@ -4,7 +4,7 @@ use Rattle.refusals.specs.declared.Refusal.{Refusal}
 use Rattle.refusals.specs.declared.Refusal.TheVariants as refusals
 use Rattle.drive_rules.specs.{declared.depth.Depth.Depth, declared.depth.Depth.TheVariants.{Empty, Files, Immediates, Infinity}}
 use Rattle.wire_reports.specs.{declared.depth_word.DepthWord.DepthWord, declared.depth_word.DepthWord.TheVariants.{Known, Unknown, Exclude}}
-use Rattle.drive_reports.specs.{declared.ask.DepthAsked.DepthAsked, declared.ask.Purpose.Purpose, declared.ask.Purpose.TheVariants.{Update, Switch, Status}}
+use Rattle.drive_reports.specs.{declared.ask.DepthAsked.DepthAsked, declared.ask.Purpose.Purpose, declared.ask.Purpose.TheVariants.{Update, Switch, Status, Diff, Summary}}
 use Rattle.drive_reports.specs.declared.graft.Graft.{Graft}
 use Rattle.drive_reports.specs.declared.ask.DepthAsked.TheVariants as asks
 
@@ -29,6 +29,8 @@ abbrev pub shallow : Purpose → Depth
 shallow Update = Files
 shallow Switch = Files
 shallow Status = Empty
+shallow Diff = Files
+shallow Summary = Files
 
 -- how deep a drive is to go: by its word, or else by whether it is asked for what is beneath
 -- directories too

@@ -1,7 +1,7 @@
 -- The links of a report, which paths they lead, and where; and the paths that it excludes.
 use Rattle.std.specs.Prelude.{Bool, true, false, not, ◌&&◌, List, [], Option, Some, None, is_some, fold, if◌then◌else◌}
 use Rattle.svnpath.specs.Paths.{is_at_or_under, PathValue, same_path}
-use Rattle.drive_reports.specs.{declared.ask.DriveAsk.DriveAsk, declared.ask.Purpose.Purpose, declared.ask.Purpose.TheVariants.{Update, Switch, Status}}
+use Rattle.drive_reports.specs.{declared.ask.DriveAsk.DriveAsk, declared.ask.Purpose.Purpose, declared.ask.Purpose.TheVariants.{Update, Switch, Status, Diff, Summary}}
 use Rattle.drive_reports.specs.declared.graft.Graft.{Graft}
 
 -- the later graft, if it is at or above the path
@@ -21,11 +21,13 @@ own_graft test p (Some g) = if same_path g.path p && test g then Some g else Non
 abbrev pub is_linked : Graft → Bool
 is_linked g = g.is_link
 
--- an update and a status are led by links; a switch leads everything to its URL
+-- an update and a status are led by links; a switch and a diff lead everything to their URL
 abbrev pub follows_links : Purpose → Bool
 follows_links Update = true
 follows_links Status = true
 follows_links Switch = false
+follows_links Diff = false
+follows_links Summary = false
 
 -- a path may be led by a link: a client of today reports it, and what it reports of it counts; the
 -- root has no link

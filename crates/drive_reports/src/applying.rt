@@ -292,8 +292,7 @@ fn has_goal<R: Repository>(view: &R, ask: &DriveAsk) -> bool
 {
     match ask.purpose {
         Purpose::Switch => is_there(view, ask.revision, &ask.goal),
-        Purpose::Update => true,
-        Purpose::Status => true,
+        Purpose::Update | Purpose::Status | Purpose::Diff | Purpose::Summary => true,
     }
 }
 

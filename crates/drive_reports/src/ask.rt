@@ -11,6 +11,9 @@ pub enum Purpose {
     Update,
     Switch,
     Status,
+    Diff,
+    /// A diff without texts.
+    Summary,
 }
 
 /// How deep a drive is to go: to a depth, or as deep as is reported.

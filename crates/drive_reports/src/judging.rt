@@ -98,7 +98,7 @@ fn shallow(purpose: Purpose) -> Depth
     ensures { result ≡ shallow purpose }
 {
     match purpose {
-        Purpose::Update | Purpose::Switch => Depth::Files,
+        Purpose::Update | Purpose::Switch | Purpose::Diff | Purpose::Summary => Depth::Files,
         Purpose::Status => Depth::Empty,
     }
 }

@@ -15,7 +15,7 @@ fn follows_links(purpose: Purpose) -> bool
 {
     match purpose {
         Purpose::Update | Purpose::Status => true,
-        Purpose::Switch => false,
+        Purpose::Switch | Purpose::Diff | Purpose::Summary => false,
     }
 }
 

@@ -6,7 +6,7 @@ use Rattle.svnpath.specs.{PathLaws.{same_path_is, same_path_refl, under_append, 
 use Rattle.repo_api.specs.{Trees.{HasFile, is_directory, Tree}, declared.entry.Entry.Entry}
 use Rattle.drive_rules.specs.Steps.{EntryKind, Step, Node, node_of, node_at, after_step, after_steps, meets, all_meet, is_of_kind, is_named, has_step}
 use Rattle.drive_rules.specs.Steps.{is_opening, is_adding, adds_or_deletes, is_text, empty_content, no_properties, may_change, IsOwn}
-use Rattle.drive_rules.specs.{Steps.Step.{OpenAt, AddAt, DeleteAt}, Drives.{IsRight, HasReason, Differs, IsOfOneKind, HasOtherText, IsInBoth, created_revision}}
+use Rattle.drive_rules.specs.{Steps.Step.{OpenAt, AddAt, DeleteAt}, Drives.{Counts, IsRight, HasReason, Differs, IsOfOneKind, HasOtherText, IsInBoth, created_revision}}
 use Rattle.drive_rules.specs.Scopes.{under, below, tree_without}
 use Rattle.drive_rules.proofs.Joined.{or_cases, or_left, or_right, and_front, and_both, apart_same, reach_named, either, Spares, IsDisjoint, joined, same_under}
 use Rattle.drive_rules.proofs.{Joined.{any_named, mapped_some, none_some}, Coming.coming_is_added}
@@ -28,9 +28,9 @@ under_both p q pq qp =
 pub under_more : (x q p : PathValue) → is_at_or_under x q ≡ true → is_at_or_under q p ≡ true → is_at_or_under x p ≡ true
 under_more x q p xq qp = subst (λ y. is_at_or_under y p ≡ true) (sym (under_is x q xq ∙ ap (λ y. y ++ drop (length q) x) (under_is q p qp) ∙ append_assoc p (drop (length p) q) (drop (length q) x))) (under_append p (drop (length p) q ++ drop (length q) x))
 
-pub rescoped : {seen : Node → Node} {one other due apart : PathValue → Bool} {r t : Tree} {cs : List Step} → ((q : PathValue) → one q ≡ other q)
-    → IsRight seen one due apart r t cs → IsRight seen other due apart r t cs
-rescoped {seen = seen} {due = due} {apart = apart} {r = r} {t = t} {cs = cs} same right = subst (λ scope. IsRight seen scope due apart r t cs) (λ i q. same q i) right
+pub rescoped : {counts : Counts} {one other due apart : PathValue → Bool} {r t : Tree} {cs : List Step} → ((q : PathValue) → one q ≡ other q)
+    → IsRight counts one due apart r t cs → IsRight counts other due apart r t cs
+rescoped {counts = counts} {due = due} {apart = apart} {r = r} {t = t} {cs = cs} same right = subst (λ scope. IsRight counts scope due apart r t cs) (λ i q. same q i) right
 
 pub at_and_below : (p q : PathValue) → either (same_path p) (below p) q ≡ under p q
 at_and_below p q = by (same_path p q) refl
@@ -74,20 +74,20 @@ below_spares p cs within q at = reach_named cs q (λ x named. by x (within x nam
     by x low false e = refl
 
 -- the first step and the entry's own, joined with what is below
-pub around : (seen : Node → Node) (due apart : PathValue → Bool) (r t : Tree) (p : PathValue) (xs cs : List Step)
+pub around : (counts : Counts) (due apart : PathValue → Bool) (r t : Tree) (p : PathValue) (xs cs : List Step)
     → ((q : PathValue) → same_path p q ≡ false → list_any (may_change q) xs ≡ false)
-    → IsRight seen (same_path p) due apart r t xs → IsRight seen (below p) due apart r t cs → IsRight seen (under p) due apart r t (xs ++ cs)
-around seen due apart r t p xs cs far head rest =
+    → IsRight counts (same_path p) due apart r t xs → IsRight counts (below p) due apart r t cs → IsRight counts (under p) due apart r t (xs ++ cs)
+around counts due apart r t p xs cs far head rest =
     rescoped (at_and_below p)
-    (joined seen (same_path p) (below p) due apart r t xs cs (at_not_below p) (λ q low. far q (below_apart p q low)) (below_spares p cs rest.within) head rest)
+    (joined counts (same_path p) (below p) due apart r t xs cs (at_not_below p) (λ q low. far q (below_apart p q low)) (below_spares p cs rest.within) head rest)
 
 -- an entry that is not apart is opened
-pub opened : (seen : Node → Node) (due apart : PathValue → Bool) (r t : Tree) (p : PathValue) (kind : EntryKind) (os cs : List Step)
+pub opened : (counts : Counts) (due apart : PathValue → Bool) (r t : Tree) (p : PathValue) (kind : EntryKind) (os cs : List Step)
     → apart p ≡ false
-    → is_of_kind kind (node_at r p) ≡ true → IsOwn p os → all_meet p (node_at r p) os ≡ true → option_map seen (after_steps p (node_at r p) os) ≡ option_map seen (node_at t p)
-    → (HasOtherText apart r t p → has_step is_text p os ≡ true) → HasReason due apart r t p
-    → IsRight seen (below p) due apart r t cs → IsRight seen (under p) due apart r t (OpenAt p kind ∷ os ++ cs)
-opened seen due apart r t p kind os cs stays is own met leads text reason rest = around seen due apart r t p (OpenAt p kind ∷ os) cs own.far head rest
+    → is_of_kind kind (node_at r p) ≡ true → IsOwn p os → all_meet p (node_at r p) os ≡ true → option_map counts.seen (after_steps p (node_at r p) os) ≡ option_map counts.seen (node_at t p)
+    → (HasOtherText apart r t p → has_step is_text p os ≡ true) → HasReason counts.changes due apart r t p
+    → IsRight counts (below p) due apart r t cs → IsRight counts (under p) due apart r t (OpenAt p kind ∷ os ++ cs)
+opened counts due apart r t p kind os cs stays is own met leads text reason rest = around counts due apart r t p (OpenAt p kind ∷ os) cs own.far head rest
   where
     at : (q : PathValue) → is_named q (OpenAt p kind ∷ os) ≡ true → same_path p q ≡ true
     at q named = ⊎_elim (λ h. and_front (same_path p q) true h) (λ h. own.here q h) (or_cases (same_path p q && true) (is_named q os) named)
@@ -96,13 +96,13 @@ opened seen due apart r t p kind os cs stays is own met leads text reason rest =
     no true = refl
     no false = refl
 
-    head : IsRight seen (same_path p) due apart r t (OpenAt p kind ∷ os)
+    head : IsRight counts (same_path p) due apart r t (OpenAt p kind ∷ os)
     head = record {
-      ends = λ q h. subst (λ x. option_map seen (after_steps x (node_at r x) os) ≡ option_map seen (node_at t x)) (same_path_is p q h) leads;
+      ends = λ q h. subst (λ x. option_map counts.seen (after_steps x (node_at r x) os) ≡ option_map counts.seen (node_at t x)) (same_path_is p q h) leads;
       texts = λ q h other. or_right (same_path p q && false) (has_step is_text q os) (subst (λ x. has_step is_text x os ≡ true) (same_path_is p q h) (text (subst (HasOtherText apart r t) (sym (same_path_is p q h)) other)));
       names = λ q h both old. or_left _ _ (ap (λ b. b && true) h);
       within = at;
-      reasons = λ q named. subst (HasReason due apart r t) (same_path_is p q (at q named)) reason;
+      reasons = λ q named. subst (HasReason counts.changes due apart r t) (same_path_is p q (at q named)) reason;
       opens = λ q k a named. (or_left _ _ (ap (λ b. b && true) (at q named)), ap (λ b. b || has_step adds_or_deletes q os) (no (same_path p q)) ∙ own.adds_nothing q);
       replaces = λ q h both a. absurd (false≢true (sym stays ∙ ap apart (same_path_is p q h) ∙ a));
       meets = λ q h. subst (λ x. all_meet x (node_at r x) (OpenAt p kind ∷ os) ≡ true) (same_path_is p q h) (and_both (meets p (node_at r p) (OpenAt p kind)) (all_meet p (node_at r p) os) (or_right (not (same_path p p)) (is_of_kind kind (node_at r p)) is) met);
@@ -120,11 +120,11 @@ some_node None s e = false≢true s
 some_node (Some x) s e = false≢true (ap is_some e)
 
 -- where nothing stands, an entry is added
-pub fresh : (seen : Node → Node) (due apart : PathValue → Bool) (r t : Tree) (p : PathValue) (kind : EntryKind) (os cs : List Step)
-    → r p ≡ None → IsSome (t p) → IsOwn p os → all_meet p (Some (empty_content kind, no_properties)) os ≡ true → option_map seen (after_steps p (Some (empty_content kind, no_properties)) os) ≡ option_map seen (node_at t p)
+pub fresh : (counts : Counts) (due apart : PathValue → Bool) (r t : Tree) (p : PathValue) (kind : EntryKind) (os cs : List Step)
+    → r p ≡ None → IsSome (t p) → IsOwn p os → all_meet p (Some (empty_content kind, no_properties)) os ≡ true → option_map counts.seen (after_steps p (Some (empty_content kind, no_properties)) os) ≡ option_map counts.seen (node_at t p)
     → (HasFile t p → has_step is_text p os ≡ true)
-    → IsRight seen (below p) due apart r t cs → IsRight seen (under p) due apart r t (AddAt p kind ∷ os ++ cs)
-fresh seen due apart r t p kind os cs none some own met leads text rest = around seen due apart r t p (AddAt p kind ∷ os) cs far head rest
+    → IsRight counts (below p) due apart r t cs → IsRight counts (under p) due apart r t (AddAt p kind ∷ os ++ cs)
+fresh counts due apart r t p kind os cs none some own met leads text rest = around counts due apart r t p (AddAt p kind ∷ os) cs far head rest
   where
     far : (q : PathValue) → same_path p q ≡ false → list_any (may_change q) (AddAt p kind ∷ os) ≡ false
     far q h = ap (λ b. b || list_any (may_change q) os) h ∙ own.far q h
@@ -135,16 +135,16 @@ fresh seen due apart r t p kind os cs none some own met leads text rest = around
     none_at : (q : PathValue) → same_path p q ≡ true → r q ≡ None
     none_at q h = ap r (sym (same_path_is p q h)) ∙ none
 
-    reason : HasReason due apart r t p
+    reason : HasReason counts.changes due apart r t p
     reason = inr (p, under_itself p, inl (λ same. some_node (t p) some (sym (ap (option_map node_of) none) ∙ same.0)))
 
-    head : IsRight seen (same_path p) due apart r t (AddAt p kind ∷ os)
+    head : IsRight counts (same_path p) due apart r t (AddAt p kind ∷ os)
     head = record {
-      ends = λ q h. ap (λ b. option_map seen (after_steps q (cond b (Some (empty_content kind, no_properties)) (node_at r q)) os)) h ∙ subst (λ x. option_map seen (after_steps x (Some (empty_content kind, no_properties)) os) ≡ option_map seen (node_at t x)) (same_path_is p q h) leads;
+      ends = λ q h. ap (λ b. option_map counts.seen (after_steps q (cond b (Some (empty_content kind, no_properties)) (node_at r q)) os)) h ∙ subst (λ x. option_map counts.seen (after_steps x (Some (empty_content kind, no_properties)) os) ≡ option_map counts.seen (node_at t x)) (same_path_is p q h) leads;
       texts = λ q h other. or_right (same_path p q && false) (has_step is_text q os) (subst (λ x. has_step is_text x os ≡ true) (same_path_is p q h) (text (subst (HasFile t) (sym (same_path_is p q h)) other.0)));
       names = λ q h both old. absurd (none_some (none_at q h) both.0);
       within = at;
-      reasons = λ q named. subst (HasReason due apart r t) (same_path_is p q (at q named)) reason;
+      reasons = λ q named. subst (HasReason counts.changes due apart r t) (same_path_is p q (at q named)) reason;
       opens = λ q k a named. absurd (no_kind_none r t q (none_at q (at q named)) k);
       replaces = λ q h both a. absurd (none_some (none_at q h) both.0);
       meets = λ q h. subst (λ x. all_meet x (node_at r x) (AddAt p kind ∷ os) ≡ true) (same_path_is p q h)
@@ -155,9 +155,9 @@ fresh seen due apart r t p kind os cs none some own met leads text rest = around
 
 -- what is taken out at a path, to be added anew or not at all: it stands there now, there is a reason for it, and what stands in both trees at
 -- the path and under it is apart
-pub record IsCut (apart : PathValue → Bool) (r t : Tree) (p : PathValue) : Type 0 where
+pub record IsCut (changes : Bool) (apart : PathValue → Bool) (r t : Tree) (p : PathValue) : Type 0 where
   pub stood : IsSome (r p)
-  pub reason : Differs r t p ⊎ (IsInBoth r t p × (apart p ≡ true))
+  pub reason : Differs changes r t p ⊎ (IsInBoth r t p × (apart p ≡ true))
   pub lone : (q : PathValue) → is_at_or_under q p ≡ true → IsInBoth r t q → apart q ≡ true
 
 without_node : (r : Tree) (p q : PathValue) → node_at (tree_without p r) q ≡ cond (is_at_or_under q p) None (node_at r q)
@@ -185,21 +185,21 @@ none_if : {X : Type 0} (o : Option X) → is_some o ≡ false → o ≡ None
 none_if None h = refl
 none_if (Some x) h = absurd (false≢true (sym h))
 
-some_seen : (seen : Node → Node) (m n : Option Node) → option_map seen m ≡ option_map seen n → IsSome n → is_some m ≡ true
-some_seen seen (Some x) n e s = refl
-some_seen seen None None e s = s
-some_seen seen None (Some y) e s = ap is_some e
+some_seen : (counts : Counts) (m n : Option Node) → option_map counts.seen m ≡ option_map counts.seen n → IsSome n → is_some m ≡ true
+some_seen counts (Some x) n e s = refl
+some_seen counts None None e s = s
+some_seen counts None (Some y) e s = ap is_some e
 
 -- a delete, and then a drive from what is left
-pub cut : (seen : Node → Node) (scope due apart : PathValue → Bool) (r t : Tree) (p : PathValue) (cs : List Step)
-    → ((q : PathValue) → under p q ≡ true → scope q ≡ true) → IsCut apart r t p
-    → IsRight seen scope due apart (tree_without p r) t cs → IsRight seen scope due apart r t (DeleteAt p ∷ cs)
-cut seen scope due apart r t p cs covers c right = record {
-  ends = λ q h. ap (λ n. option_map seen (after_steps q n cs)) (sym (without_node r p q)) ∙ right.ends q h;
+pub cut : (counts : Counts) (scope due apart : PathValue → Bool) (r t : Tree) (p : PathValue) (cs : List Step)
+    → ((q : PathValue) → under p q ≡ true → scope q ≡ true) → IsCut counts.changes apart r t p
+    → IsRight counts scope due apart (tree_without p r) t cs → IsRight counts scope due apart r t (DeleteAt p ∷ cs)
+cut counts scope due apart r t p cs covers c right = record {
+  ends = λ q h. ap (λ n. option_map counts.seen (after_steps q n cs)) (sym (without_node r p q)) ∙ right.ends q h;
   texts = λ q h other. or_right (same_path p q && false) (has_step is_text q cs) (right.texts q h (other.0, text_left q other (is_at_or_under q p) refl));
   names = λ q h both old. or_right (same_path p q && true) (is_named q cs) (named_left q h both old (is_at_or_under q p) refl);
   within = λ q named. ⊎_elim (λ h. covers q (same_under p q (and_front (same_path p q) true h))) (λ h. right.within q h) (or_cases (same_path p q && true) (is_named q cs) named);
-  reasons = λ q named. ⊎_elim (λ h. subst (HasReason due apart r t) (same_path_is p q (and_front (same_path p q) true h)) (inr (p, under_itself p, wide p c.reason))) (λ h. reason q (right.reasons q h)) (or_cases (same_path p q && true) (is_named q cs) named);
+  reasons = λ q named. ⊎_elim (λ h. subst (HasReason counts.changes due apart r t) (same_path_is p q (and_front (same_path p q) true h)) (inr (p, under_itself p, wide p c.reason))) (λ h. reason q (right.reasons q h)) (or_cases (same_path p q && true) (is_named q cs) named);
   opens = λ q k a named. opened_left q k a named (is_at_or_under q p) refl;
   replaces = λ q h both a. or_right (same_path p q && false) (has_step is_adding q cs) (added_left q h both a (is_at_or_under q p) refl);
   meets = λ q h. and_both (meets q (node_at r q) (DeleteAt p)) (all_meet q (after_step q (node_at r q) (DeleteAt p)) cs) (stands q (same_path p q) refl) (ap (λ n. all_meet q n cs) (sym (without_node r p q)) ∙ right.meets q h);
@@ -212,11 +212,11 @@ cut seen scope due apart r t p cs covers c right = record {
     coming : (q : PathValue) → scope q ≡ true → is_at_or_under q p ≡ true → IsSome (t q) → has_step is_adding q cs ≡ true
     coming q h u some =
         coming_is_added cs q
-        (some_seen seen (after_steps q None cs) (node_at t q) (ap (λ n. option_map seen (after_steps q n cs)) (sym (without_node r p q ∙ ap (λ b. cond b None (node_at r q)) u)) ∙ right.ends q h) (mapped_some (t q) some))
+        (some_seen counts (after_steps q None cs) (node_at t q) (ap (λ n. option_map counts.seen (after_steps q n cs)) (sym (without_node r p q ∙ ap (λ b. cond b None (node_at r q)) u)) ∙ right.ends q h) (mapped_some (t q) some))
 
-    named_left : (q : PathValue) → scope q ≡ true → IsInBoth r t q → (created_revision r q ≡ created_revision t q → ⊥) ⊎ (due q ≡ true) → (b : Bool) → is_at_or_under q p ≡ b → is_named q cs ≡ true
+    named_left : (q : PathValue) → scope q ≡ true → IsInBoth r t q → (counts.changes ≡ true) × (created_revision r q ≡ created_revision t q → ⊥) ⊎ (due q ≡ true) → (b : Bool) → is_at_or_under q p ≡ b → is_named q cs ≡ true
     named_left q h both old true u = any_named is_adding q cs (coming q h u both.1)
-    named_left q h both old false u = right.names q h (both_left q u both) (⊎_elim (λ o. inl (λ e. o (sym (ap (option_map _) (kept r p q u)) ∙ e))) (λ s. inr s) old)
+    named_left q h both old false u = right.names q h (both_left q u both) (⊎_elim (λ o. inl (o.0, λ e. o.1 (sym (ap (option_map _) (kept r p q u)) ∙ e))) (λ s. inr s) old)
 
     added_left : (q : PathValue) → scope q ≡ true → IsInBoth r t q → apart q ≡ true → (b : Bool) → is_at_or_under q p ≡ b → has_step is_adding q cs ≡ true
     added_left q h both a true u = coming q h u both.1
@@ -233,23 +233,23 @@ cut seen scope due apart r t p cs covers c right = record {
     text_left q other true u = inr (λ e. file_there q other.0 (sym (ap (λ o. option_map (λ (n : Node). n.0) (option_map node_of o)) (left_out r p q u)) ∙ e))
     text_left q other false u = ⊎_elim (λ a. inl a) (λ d. inr (λ e. d (sym (ap (λ o. option_map (λ (n : Node). n.0) (option_map node_of o)) (kept r p q u)) ∙ e))) other.1
 
-    wide : (w : PathValue) → Differs r t w ⊎ (IsInBoth r t w × (apart w ≡ true)) → Differs r t w ⊎ ((due w ≡ true) ⊎ (IsInBoth r t w × (apart w ≡ true)))
+    wide : (w : PathValue) → Differs counts.changes r t w ⊎ (IsInBoth r t w × (apart w ≡ true)) → Differs counts.changes r t w ⊎ ((due w ≡ true) ⊎ (IsInBoth r t w × (apart w ≡ true)))
     wide w why = ⊎_elim (λ d. inl d) (λ a. inr (inr a)) why
 
-    moved : (w : PathValue) → Differs (tree_without p r) t w → (b : Bool) → is_at_or_under w p ≡ b → Differs r t w ⊎ (IsInBoth r t w × (apart w ≡ true))
-    moved w d false u = inl (λ same. d (ap (option_map node_of) (kept r p w u) ∙ same.0, ap (option_map (λ (e : Entry). e.last)) (kept r p w u) ∙ same.1))
+    moved : (w : PathValue) → Differs counts.changes (tree_without p r) t w → (b : Bool) → is_at_or_under w p ≡ b → Differs counts.changes r t w ⊎ (IsInBoth r t w × (apart w ≡ true))
+    moved w d false u = inl (λ same. d (ap (option_map node_of) (kept r p w u) ∙ same.0, λ counted. ap (option_map (λ (e : Entry). e.last)) (kept r p w u) ∙ same.1 counted))
     moved w d true u = lower (is_some (r w)) (is_some (t w)) refl refl
       where
-        lower : (m n : Bool) → is_some (r w) ≡ m → is_some (t w) ≡ n → Differs r t w ⊎ (IsInBoth r t w × (apart w ≡ true))
+        lower : (m n : Bool) → is_some (r w) ≡ m → is_some (t w) ≡ n → Differs counts.changes r t w ⊎ (IsInBoth r t w × (apart w ≡ true))
         lower true true a b = inr ((a, b), c.lone w u (a, b))
-        lower false n a b = inl (λ same. d (ap (option_map node_of) (left_out r p w u ∙ sym (none_if (r w) a)) ∙ same.0, ap (option_map (λ (e : Entry). e.last)) (left_out r p w u ∙ sym (none_if (r w) a)) ∙ same.1))
-        lower true false a b = inl (λ same. d (ap (option_map node_of) (left_out r p w u ∙ sym (none_if (t w) b)), ap (option_map (λ (e : Entry). e.last)) (left_out r p w u ∙ sym (none_if (t w) b))))
+        lower false n a b = inl (λ same. d (ap (option_map node_of) (left_out r p w u ∙ sym (none_if (r w) a)) ∙ same.0, λ counted. ap (option_map (λ (e : Entry). e.last)) (left_out r p w u ∙ sym (none_if (r w) a)) ∙ same.1 counted))
+        lower true false a b = inl (λ same. d (ap (option_map node_of) (left_out r p w u ∙ sym (none_if (t w) b)), λ counted. ap (option_map (λ (e : Entry). e.last)) (left_out r p w u ∙ sym (none_if (t w) b))))
 
     both_there : (w : PathValue) → IsInBoth (tree_without p r) t w → (b : Bool) → is_at_or_under w p ≡ b → IsInBoth r t w
     both_there w both true u = absurd (none_some (left_out r p w u) both.0)
     both_there w both false u = (subst IsSome (kept r p w u) both.0, both.1)
 
-    reason : (q : PathValue) → HasReason due apart (tree_without p r) t q → HasReason due apart r t q
+    reason : (q : PathValue) → HasReason counts.changes due apart (tree_without p r) t q → HasReason counts.changes due apart r t q
     reason q (inl e) = inl e
     reason q (inr w) =
         inr (w.0, w.1, ⊎_elim (λ d. wide w.0 (moved w.0 d (is_at_or_under w.0 p) refl)) (λ more. ⊎_elim (λ s. inr (inl s)) (λ a. inr (inr (both_there w.0 a.0 (is_at_or_under w.0 p) refl, a.1))) more) w.2)

@@ -7,7 +7,7 @@ use Rattle.repo_api.specs.{Trees.{HasFile, is_directory, Tree}, declared.entry.C
 use Rattle.drive_rules.specs.Steps.{Step, Node, node_at, node_of, after_step, after_steps, meets, all_meet, is_of_kind, step_path, is_named, has_step}
 use Rattle.drive_rules.specs.Steps.{is_opening, adds_or_deletes, is_adding, is_text, is_entry_property, with_property_value, empty_content, no_properties}
 use Rattle.drive_rules.specs.{Steps.may_change, Steps.EntryKind.FileKind, Steps.Step.{OpenAt, AddAt, DeleteAt, PropertyAt, TextAt}}
-use Rattle.drive_rules.specs.Drives.{IsRight, IsInBoth, created_revision}
+use Rattle.drive_rules.specs.Drives.{Counts, IsRight, IsInBoth, created_revision}
 
 pub or_cases : (a b : Bool) → (a || b) ≡ true → (a ≡ true) ⊎ (b ≡ true)
 or_cases true b h = inl refl
@@ -88,7 +88,7 @@ pub named_append : (test : Step → Bool) (q : PathValue) (xs ys : List Step) �
 named_append test q xs ys = any_append _ xs ys
 
 -- what isn't in the scope isn't named
-unnamed : {seen : Node → Node} {one due apart : PathValue → Bool} {r t : Tree} {cs : List Step} → IsRight seen one due apart r t cs → (q : PathValue) → one q ≡ false → is_named q cs ≡ false
+unnamed : {counts : Counts} {one due apart : PathValue → Bool} {r t : Tree} {cs : List Step} → IsRight counts one due apart r t cs → (q : PathValue) → one q ≡ false → is_named q cs ≡ false
 unnamed {one = one} {cs = cs} right q out = by (is_named q cs) refl
   where
     by : (b : Bool) → is_named q cs ≡ b → b ≡ false
@@ -149,10 +149,10 @@ all_meet_append [] ys q n = refl
 all_meet_append (x ∷ xs) ys q n =
     ap (λ b. meets q n x && b) (all_meet_append xs ys q (after_step q n x)) ∙ and_assoc (meets q n x) (all_meet q (after_step q n x) xs) (all_meet q (after_steps q (after_step q n x) xs) ys)
 
-pub joined : (seen : Node → Node) (one other due apart : PathValue → Bool) (r t : Tree) (xs ys : List Step) → IsDisjoint one other → Spares xs other → Spares ys one
-    → IsRight seen one due apart r t xs → IsRight seen other due apart r t ys → IsRight seen (either one other) due apart r t (xs ++ ys)
-joined seen one other due apart r t xs ys disjoint xs_spare ys_spare x y = record {
-  ends = λ q h. ap (option_map seen) (fold-append (after_step q) (node_at r q) xs ys) ∙ ⊎_elim (λ h1. ap (option_map seen) (all_untouched ys q (after_steps q (node_at r q) xs) (ys_spare q h1)) ∙ x.ends q h1) (λ h2. ap (λ n. option_map seen (after_steps q n ys)) (all_untouched xs q (node_at r q) (xs_spare q h2)) ∙ y.ends q h2) (or_cases (one q) (other q) h);
+pub joined : (counts : Counts) (one other due apart : PathValue → Bool) (r t : Tree) (xs ys : List Step) → IsDisjoint one other → Spares xs other → Spares ys one
+    → IsRight counts one due apart r t xs → IsRight counts other due apart r t ys → IsRight counts (either one other) due apart r t (xs ++ ys)
+joined counts one other due apart r t xs ys disjoint xs_spare ys_spare x y = record {
+  ends = λ q h. ap (option_map counts.seen) (fold-append (after_step q) (node_at r q) xs ys) ∙ ⊎_elim (λ h1. ap (option_map counts.seen) (all_untouched ys q (after_steps q (node_at r q) xs) (ys_spare q h1)) ∙ x.ends q h1) (λ h2. ap (λ n. option_map counts.seen (after_steps q n ys)) (all_untouched xs q (node_at r q) (xs_spare q h2)) ∙ y.ends q h2) (or_cases (one q) (other q) h);
   texts = λ q h text. named_append is_text q xs ys ∙ ⊎_elim (λ h1. or_left (has_step is_text q xs) (has_step is_text q ys) (x.texts q h1 text)) (λ h2. or_right (has_step is_text q xs) (has_step is_text q ys) (y.texts q h2 text)) (or_cases (one q) (other q) h);
   names = λ q h both old. named_append (λ _. true) q xs ys ∙ ⊎_elim (λ h1. or_left _ _ (x.names q h1 both old)) (λ h2. or_right _ _ (y.names q h2 both old)) (or_cases (one q) (other q) h);
   within = λ q named. ⊎_elim (λ n1. or_left _ _ (x.within q n1)) (λ n2. or_right _ _ (y.within q n2)) (parts q named);
@@ -196,13 +196,13 @@ both_by r t q same some = (by (r q) (ap is_some same ∙ mapped_some (t q) some)
     by (Some x) h = refl
 
 -- an empty drive is right where nothing differs, is due or is apart
-pub nothing : (seen : Node → Node) (scope due apart : PathValue → Bool) (r t : Tree)
-    → ((q : PathValue) → scope q ≡ true → (node_at r q ≡ node_at t q) × (IsInBoth r t q → (created_revision r q ≡ created_revision t q) × ((due q ≡ false) × (apart q ≡ false))))
-    → IsRight seen scope due apart r t []
-nothing seen scope due apart r t same = record {
-  ends = λ q h. ap (option_map seen) (same q h).0;
+pub nothing : (counts : Counts) (scope due apart : PathValue → Bool) (r t : Tree)
+    → ((q : PathValue) → scope q ≡ true → (node_at r q ≡ node_at t q) × (IsInBoth r t q → (counts.changes ≡ true → created_revision r q ≡ created_revision t q) × ((due q ≡ false) × (apart q ≡ false))))
+    → IsRight counts scope due apart r t []
+nothing counts scope due apart r t same = record {
+  ends = λ q h. ap (option_map counts.seen) (same q h).0;
   texts = λ q h text. absurd (⊎_elim (λ a. false≢true (sym ((same q h).1 (both_by r t q (same q h).0 (file_some t q text.0))).1.1 ∙ a)) (λ d. d (ap (option_map (λ (n : Node). n.0)) (same q h).0)) text.1);
-  names = λ q h both old. ⊎_elim (λ o. absurd (o ((same q h).1 both).0)) (λ s. absurd (false≢true (sym ((same q h).1 both).1.0 ∙ s))) old;
+  names = λ q h both old. ⊎_elim (λ o. absurd (o.1 (((same q h).1 both).0 o.0))) (λ s. absurd (false≢true (sym ((same q h).1 both).1.0 ∙ s))) old;
   within = λ q named. absurd (false≢true named);
   reasons = λ q named. absurd (false≢true named);
   opens = λ q kind a named. absurd (false≢true named);

@@ -4,7 +4,7 @@ use Rattle.std.proofs.{Common.{subst, ◌⊎◌, inl, inr, ⊎_elim, option_map,
 use Rattle.std.specs.Prelude.{IsTrue, IsSome, IsSomeAnd}
 use Rattle.svnpath.specs.{PathLaws.{rest_append, same_path_refl, under_is}, Paths.{Component, is_at_or_under, PathValue, same_path}}
 use Rattle.repo_api.specs.{Trees.{HasDirectory, is_directory, IsTree, Tree}, declared.entry.Entry.Entry}
-use Rattle.drive_rules.specs.{declared.depth.Depth.Depth, Steps.{Step, Node, node_of}, Drives.{IsRight, IsInBoth, HasReason, Differs}}
+use Rattle.drive_rules.specs.{declared.depth.Depth.Depth, Steps.{Step, Node, node_of}, Drives.{Counts, IsRight, IsInBoth, HasReason, Differs}}
 use Rattle.drive_rules.specs.Scopes.{under, HoldsTogether, DepthLimit, scope_of, within, stays_in_scope, includes, depth_said, own_or_inherited, top_limit}
 use Rattle.drive_rules.proofs.{Joined.{and_front, and_both, none_some}, Entries.{below_under, below_apart}}
 
@@ -86,11 +86,11 @@ module _ (hides : PathValue → Bool) (inherited : Depth → Depth) (limit : Dep
       by false h k = absurd (false≢true k)
 
 -- a drive over what is in scope names nothing outside the scope
-pub in_scope : (seen : Node → Node) (scope due apart : PathValue → Bool) (top : PathValue) (r t : Tree) (cs : List Step)
+pub in_scope : (counts : Counts) (scope due apart : PathValue → Bool) (top : PathValue) (r t : Tree) (cs : List Step)
     → IsScope scope top → ((w : PathValue) → due w ≡ true → scope w ≡ true)
-    → IsRight seen (under top) due apart (within scope r) (within scope t) cs
-    → IsRight seen scope due apart (within scope r) (within scope t) cs
-in_scope seen scope due apart top r t cs is known x = record {
+    → IsRight counts (under top) due apart (within scope r) (within scope t) cs
+    → IsRight counts scope due apart (within scope r) (within scope t) cs
+in_scope counts scope due apart top r t cs is known x = record {
   ends = λ q h. x.ends q (is.beneath q h);
   names = λ q h both old. x.names q (is.beneath q h) both old;
   texts = λ q h other. x.texts q (is.beneath q h) other;
@@ -104,12 +104,12 @@ in_scope seen scope due apart top r t cs is known x = record {
     none : (u : Tree) (w : PathValue) → scope w ≡ false → within scope u w ≡ None
     none u w g = ap (λ s. cond s (u w) None) g
 
-    in_it : (w : PathValue) (s : Bool) → scope w ≡ s → Differs (within scope r) (within scope t) w ⊎ ((due w ≡ true) ⊎ (IsInBoth (within scope r) (within scope t) w × (apart w ≡ true))) → scope w ≡ true
+    in_it : (w : PathValue) (s : Bool) → scope w ≡ s → Differs counts.changes (within scope r) (within scope t) w ⊎ ((due w ≡ true) ⊎ (IsInBoth (within scope r) (within scope t) w × (apart w ≡ true))) → scope w ≡ true
     in_it w true h why = h
     in_it w false h why =
-        ⊎_elim (λ d. absurd (d (ap (λ o. option_map node_of o) (none r w h ∙ sym (none t w h)), ap (λ o. option_map (λ (e : Entry). e.last) o) (none r w h ∙ sym (none t w h)))))
+        ⊎_elim (λ d. absurd (d (ap (λ o. option_map node_of o) (none r w h ∙ sym (none t w h)), λ counted. ap (λ o. option_map (λ (e : Entry). e.last) o) (none r w h ∙ sym (none t w h)))))
         (λ more. ⊎_elim (λ s. known w s) (λ a. absurd (none_some (none r w h) a.0.0)) more) why
 
-    reached : (q : PathValue) → is_at_or_under q top ≡ true → HasReason due apart (within scope r) (within scope t) q → scope q ≡ true
+    reached : (q : PathValue) → is_at_or_under q top ≡ true → HasReason counts.changes due apart (within scope r) (within scope t) q → scope q ≡ true
     reached q at (inl e) = subst (λ y. scope y ≡ true) (sym e) (is.root (subst (λ y. is_at_or_under y top ≡ true) e at))
     reached q at (inr w) = is.above q w.0 at w.1 (in_it w.0 (scope w.0) refl w.2)

@@ -17,9 +17,15 @@ created_revision t q = option_map (λ e. revision_of e.last) (t q)
 abbrev pub content_at : Tree → PathValue → Option Content
 content_at t q = option_map (λ (n : Node). n.0) (node_at t q)
 
--- presence, kind, text, properties or the last change differ
-abbrev pub Differs : Tree → Tree → PathValue → Type 0
-Differs old new q = (node_at old q ≡ node_at new q) × (last_mark old q ≡ last_mark new q) → ⊥
+-- What counts in a drive: what is seen of an entry, and whether its last change counts by itself.
+pub record Counts : Type 0 where
+  pub seen : Node → Node
+  pub changes : Bool
+
+-- presence, kind, text, properties or, where it counts, the last change differ
+abbrev pub Differs : Bool → Tree → Tree → PathValue → Type 0
+Differs changes old new q =
+    (node_at old q ≡ node_at new q) × (IsTrue changes → last_mark old q ≡ last_mark new q) → ⊥
 
 -- something stands there in both trees
 abbrev pub IsInBoth : Tree → Tree → PathValue → Type 0
@@ -31,39 +37,42 @@ IsOfOneKind old new q =
     IsSomeAnd (old q) (λ e. IsSomeAnd (new q) (λ f. is_directory e ≡ is_directory f))
 
 -- the path is the root, or something at or under it differs, is due, or is apart
-abbrev pub HasReason : (PathValue → Bool) → (PathValue → Bool) → Tree → Tree → PathValue → Type 0
-HasReason due apart old new q =
+abbrev pub HasReason : Bool → (PathValue → Bool) → (PathValue → Bool) → Tree → Tree → PathValue
+    → Type 0
+HasReason changes due apart old new q =
     (q ≡ []) ⊎ ((p : PathValue) × IsTrue (is_at_or_under p q)
-    × (Differs old new p ⊎ (IsTrue (due p) ⊎ (IsInBoth old new p × IsTrue (apart p)))))
+    × (Differs changes old new p ⊎ (IsTrue (due p) ⊎ (IsInBoth old new p × IsTrue (apart p)))))
 
 -- a file that is apart, or where nothing stood, or a directory, or a file of another text
 abbrev pub HasOtherText : (PathValue → Bool) → Tree → Tree → PathValue → Type 0
 HasOtherText apart old new q =
     HasFile new q × (IsTrue (apart q) ⊎ (content_at old q ≡ content_at new q → ⊥))
 
--- the created revision is another, or the entry is due
-abbrev pub MustBeNamed : (PathValue → Bool) → Tree → Tree → PathValue → Type 0
-MustBeNamed due old new q =
-    (created_revision old q ≡ created_revision new q → ⊥) ⊎ IsTrue (due q)
+-- the created revision is another, where the last change counts, or the entry is due
+abbrev pub MustBeNamed : Bool → (PathValue → Bool) → Tree → Tree → PathValue → Type 0
+MustBeNamed changes due old new q =
+    (IsTrue changes × (created_revision old q ≡ created_revision new q → ⊥)) ⊎ IsTrue (due q)
 
--- A right drive from one tree to another, of the paths in scope, by what is seen of an entry. An
+-- A right drive from one tree to another, of the paths in scope, by what counts of an entry. An
 -- entry that is due is named though it may not differ. One that is apart is another than the one
 -- that stood there, and comes in its place though it may not differ.
-pub record IsRight (seen : Node → Node) (scope due apart : PathValue → Bool) (old new : Tree)
+pub record IsRight (counts : Counts) (scope due apart : PathValue → Bool) (old new : Tree)
     (cs : List Step) : Type 0 where
   -- it ends at the new tree
   pub ends : (q : PathValue) → IsTrue (scope q)
-      → option_map seen (after_steps q (node_at old q) cs) ≡ option_map seen (node_at new q)
-  -- it names what stands in both trees where its created revision is another or it is due
-  pub names : (q : PathValue) → IsTrue (scope q) → IsInBoth old new q → MustBeNamed due old new q
-      → IsTrue (is_named q cs)
+      → option_map counts.seen (after_steps q (node_at old q) cs)
+      ≡ option_map counts.seen (node_at new q)
+  -- it names what stands in both trees where its created revision is another and counts, or it is due
+  pub names : (q : PathValue) → IsTrue (scope q) → IsInBoth old new q
+      → MustBeNamed counts.changes due old new q → IsTrue (is_named q cs)
   -- it says the text of a file that is new, is apart or has another text
   pub texts : (q : PathValue) → IsTrue (scope q) → HasOtherText apart old new q
       → IsTrue (has_step is_text q cs)
   -- it names nothing outside the scope
   pub within : (q : PathValue) → IsTrue (is_named q cs) → IsTrue (scope q)
   -- it names nothing without a reason
-  pub reasons : (q : PathValue) → IsTrue (is_named q cs) → HasReason due apart old new q
+  pub reasons : (q : PathValue) → IsTrue (is_named q cs)
+      → HasReason counts.changes due apart old new q
   -- what keeps its kind and is not apart is opened, and neither added nor deleted
   pub opens : (q : PathValue) → IsOfOneKind old new q → apart q ≡ false → IsTrue (is_named q cs)
       → IsTrue (has_step is_opening q cs) × (has_step adds_or_deletes q cs ≡ false)

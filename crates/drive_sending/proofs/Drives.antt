@@ -14,7 +14,7 @@ use Rattle.reporter.specs.Visits.Visit.{Open, Add, Delete, Close}
 use Rattle.drive_reports.specs.Reported.{reported_entries}
 use Rattle.drive_reports.specs.Targets.{WholeReport, client_tree, counted_entries, depth_inherited, drive_limit, target_entries, drive_scope, due_in, is_apart, is_hidden, old_tree, new_tree, stale_in}
 use Rattle.drive_wire.specs.{EntryProperties.{entry_property, told_by, told}, Saying.Says}
-use Rattle.drive_wire.specs.Sent.{IsDrive, LeadsToTarget, TellsEach, base_of, or_no_text, enters, from_root, seen_by}
+use Rattle.drive_wire.specs.Sent.{IsDrive, LeadsToTarget, TellsEach, base_of, or_no_text, enters, from_root, counts_of}
 use Rattle.drive_wire.proofs.{Joining.says_append, Writing.reads_close}
 use Rattle.drive_news.specs.{News.{news_at, news_steps, steps_if, own_steps_of, old_entry}, declared.news.News.News}
 use Rattle.drive_sides.specs.Plans.{IsPlan, from_top}
@@ -272,7 +272,7 @@ module _ (c : RepoState) (report : WholeReport) where
 
       right : LeadsToTarget c report (Steps (from_top report.ask vs))
       right =
-          in_scope (seen_by report.ask.purpose) (drive_scope c report) (due_in c report) (is_apart c report) report.ask.target
+          in_scope (counts_of report.ask.purpose) (drive_scope c report) (due_in c report) (is_apart c report) report.ask.target
           (reported_entries (client_tree c report)) (target_entries c report) (Steps (from_top report.ask vs))
           (is_scope (is_hidden c report) (depth_inherited report.ask) (drive_limit c report) (counted_entries c report) (target_entries c report) report.ask.target)
           (λ w s. and_front (drive_scope c report w) _ s) plan.right

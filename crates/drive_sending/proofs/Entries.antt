@@ -12,7 +12,7 @@ use Rattle.wire_edits.specs.declared.editing.EditorCommand.TheVariants.{CloseFil
 use Rattle.drive_rules.specs.{Steps.EntryKind, Steps.EntryKind.{DirectoryKind, FileKind}, Steps.Step.TextAt}
 use Rattle.drive_rules.proofs.Joined.{and_both}
 use Rattle.reporter.specs.Own.{property_steps, text_steps}
-use Rattle.drive_reports.specs.{declared.ask.Purpose.Purpose, declared.ask.Purpose.TheVariants.{Update, Switch, Status}}
+use Rattle.drive_reports.specs.{declared.ask.Purpose.Purpose, declared.ask.Purpose.TheVariants.{Update, Switch, Status, Diff, Summary}}
 use Rattle.drive_wire.proofs.{Joining.says_append, Writing.{says_properties, says_text, joined_bytes, with_state}}
 use Rattle.drive_news.specs.{News.news_steps, declared.news.News.News}
 use Rattle.drive_sending.specs.{Commands.{windows, chunks, text_commands, digits_of, checksum_sent, news_commands, property_command}, Tokens.token_of}
@@ -34,13 +34,17 @@ nothing_sent : (purpose : Purpose) → checksum_sent purpose None ≡ None
 nothing_sent Update = refl
 nothing_sent Switch = refl
 nothing_sent Status = refl
+nothing_sent Diff = refl
+nothing_sent Summary = refl
 
 right_checksum : (purpose : Purpose) (text : List ℕ) → is_sent_checksum purpose text (checksum_sent purpose (Some text)) ≡ true
 right_checksum Update text = same_component_refl (digits_of text)
 right_checksum Switch text = same_component_refl (digits_of text)
 right_checksum Status text = refl
+right_checksum Diff text = same_component_refl (digits_of text)
+right_checksum Summary text = refl
 
--- a status sends no text
+-- a drive without texts sends none
 abbrev pub IsTextSent : Purpose → Option (List ℕ) → Type 0
 IsTextSent purpose text = sends_texts purpose ≡ false → or_no_text text ≡ []
 
@@ -48,6 +52,8 @@ delta_sent : (purpose : Purpose) (text : List ℕ) → IsTextSent purpose (Some 
 delta_sent Update text sent = refl
 delta_sent Switch text sent = refl
 delta_sent Status text sent = ap (λ t. is_name (joined_bytes (chunks t)) header) (sent refl)
+delta_sent Diff text sent = refl
+delta_sent Summary text sent = ap (λ t. is_name (joined_bytes (chunks t)) header) (sent refl)
 
 -- what is open once an entry was told its news: a directory, and no file
 abbrev pub after_entry : EntryKind → PathValue → List PathValue → List PathValue

@@ -14,7 +14,7 @@ use Rattle.drive_rules.proofs.Joined.{and_front}
 use Rattle.reporter.specs.{Nesting.{stands_as, walk}, Visits.{entry_kind, kind_if, plan_steps}, Visits.Visit}
 use Rattle.reporter.specs.Visits.Visit.{Open, Add, Delete, Close}
 use Rattle.drive_reports.specs.{Targets.{WholeReport, old_tree, new_tree}, declared.ask.Purpose.Purpose}
-use Rattle.drive_reports.specs.declared.ask.Purpose.TheVariants.{Update, Switch, Status}
+use Rattle.drive_reports.specs.declared.ask.Purpose.TheVariants.{Update, Switch, Status, Diff, Summary}
 use Rattle.drive_wire.specs.Saying as saying
 use Rattle.drive_wire.specs.{Saying.{Says, steps_said, is_in_place, when, is_open_token}, Sent.{base_of, or_no_text}}
 use Rattle.drive_wire.proofs.{Joining.says_append, Writing.{reads_entry, reads_close}}
@@ -52,6 +52,8 @@ sent_short : (purpose : Purpose) (text : List ℕ) → length text ≤ limit →
 sent_short Update text short = short
 sent_short Switch text short = short
 sent_short Status text short = nothing_short
+sent_short Diff text short = short
+sent_short Summary text short = nothing_short
 
 told_short : (purpose : Purpose) (old : Option (List ℕ)) (text : Option (List ℕ)) → length (or_no_text text) ≤ limit → length (or_no_text (option_map (text_sent purpose) (other_text old text))) ≤ limit
 told_short purpose old None short = nothing_short
@@ -62,14 +64,16 @@ told_short purpose (Some before) (Some text) short = by (is_name before text)
     by true = nothing_short
     by false = sent_short purpose text short
 
+nothing_told : (o : Option (List ℕ)) → or_no_text (option_map (λ (text : List ℕ). []) o) ≡ []
+nothing_told None = refl
+nothing_told (Some t) = refl
+
 told_sent : (purpose : Purpose) (old : Option (List ℕ)) (text : Option (List ℕ)) → IsTextSent purpose (option_map (text_sent purpose) (other_text old text))
 told_sent Update old text none = absurd (false≢true (sym none))
 told_sent Switch old text none = absurd (false≢true (sym none))
-told_sent Status old text none = by (other_text old text)
-  where
-    by : (o : Option (List ℕ)) → or_no_text (option_map (text_sent Status) o) ≡ []
-    by None = refl
-    by (Some t) = refl
+told_sent Status old text none = nothing_told (other_text old text)
+told_sent Diff old text none = absurd (false≢true (sym none))
+told_sent Summary old text none = nothing_told (other_text old text)
 
 abbrev is_directory_kind : EntryKind → Bool
 is_directory_kind DirectoryKind = true

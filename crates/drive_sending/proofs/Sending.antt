@@ -18,7 +18,7 @@ use Rattle.drive_reports.specs.Reported.{ReportedEntry, ReportedTree, left_by, t
 use Rattle.drive_reports.specs.{Aims.aim_at, Targets.{WholeReport, client_entries, client_tree, drive_scope, due_in, is_apart, is_stale, is_stale_token, is_to_be_opened, is_written_anew, keeps_report, new_tree, old_tree, stale_in, target_entries}}
 use Rattle.drive_reports.specs.{declared.graft.Graft.Graft, declared.graft.Subtree.Subtree}
 use Rattle.drive_reports.proofs.Aiming.{at_led, entry_is, entry_stands, IsFront, IsLed}
-use Rattle.drive_wire.specs.Sent.{or_no_text}
+use Rattle.drive_wire.specs.Sent.{counts_changes, or_no_text}
 use Rattle.drive_sides.specs.Plans.{IsPlan, from_top}
 use Rattle.drive_sides.proofs.Listing.{in_old, in_new, under_target}
 use Rattle.drive_news.specs.News.{own_steps_of}
@@ -163,14 +163,14 @@ module _ (c : RepoState) (report : WholeReport) (trees : AreTrees c.revisions) (
 
   -- ---- what is named
 
-  differing : (p : PathValue) → Differs Old New p → IsNamed p
+  differing : (p : PathValue) → Differs (counts_changes report.ask.purpose) Old New p → IsNamed p
   differing p differs = by (Old p) (New p) refl refl
     where
       by : (a b : Option Entry) → Old p ≡ a → New p ≡ b → IsNamed p
       by (Some e) b is_old is_new = old_named p (ap is_some is_old)
       by None (Some f) is_old is_new = new_named p (ap is_some is_new)
       by None None is_old is_new =
-          absurd (differs (ap (option_map node_of) (is_old ∙ sym is_new), ap (option_map (λ (e : Entry). e.last)) (is_old ∙ sym is_new)))
+          absurd (differs (ap (option_map node_of) (is_old ∙ sym is_new), λ counted. ap (option_map (λ (e : Entry). e.last)) (is_old ∙ sym is_new)))
 
   stale_named : (p : PathValue) → stale_in c report p ≡ true → IsNamed p
   stale_named p stale = by (option_and_then (λ (h : ReportedEntry). h.token) (client_tree c report p)) (and_behind (keeps_report c report p) _ (and_behind (drive_scope c report p) (is_stale c report p) stale))
@@ -203,7 +203,7 @@ module _ (c : RepoState) (report : WholeReport) (trees : AreTrees c.revisions) (
       by false b stale anew either =
           had_named p scope (there (client_tree c report p) (and_behind (aim_at c report p).stays _ (and_behind report.ask.is_of_today _ (anew ∙ either))))
 
-  reason_named : (q : PathValue) → HasReason (due_in c report) (is_apart c report) Old New q → IsNamed q
+  reason_named : (q : PathValue) → HasReason (counts_changes report.ask.purpose) (due_in c report) (is_apart c report) Old New q → IsNamed q
   reason_named q reason =
       ⊎_elim (λ root. subst IsNamed (sym root) (All-nil IsComponent))
       (λ w. named_above q w.0 w.1 (⊎_elim (λ differs. differing w.0 differs) (λ more. ⊎_elim (λ due. due_named w.0 due) (λ both. old_named w.0 both.0.0) more) w.2)) reason

@@ -13,7 +13,7 @@ use Rattle.wire_edits.specs.{declared.editing.EditorCommand.TheVariants.CloseFil
 use Rattle.drive_rules.specs.{Steps.EntryKind, Steps.EntryKind.{DirectoryKind, FileKind}}
 use Rattle.reporter.specs.{Own.Change, Visits.kind_if, Visits.Visit, Visits.Visit.{Open, Add, Delete, Close}}
 use Rattle.drive_reports.specs.{Targets.{WholeReport, client_tree, new_tree}, declared.ask.Purpose.Purpose}
-use Rattle.drive_reports.specs.declared.ask.Purpose.TheVariants.{Update, Switch, Status}
+use Rattle.drive_reports.specs.declared.ask.Purpose.TheVariants.{Update, Switch, Status, Diff, Summary}
 use Rattle.drive_wire.specs.Sent.{framed}
 use Rattle.drive_news.specs.{News.news_at, declared.news.News.News}
 use Rattle.drive_sending.specs.Tokens.{token_of, relative_text}
@@ -47,11 +47,13 @@ text_commands token (Some text) =
 abbrev pub digits_of : List ℕ → List ℕ
 digits_of text = encode_lower (md5 text)
 
--- a file is closed with the digits of the text that was sent; a status sends no texts
+-- a file is closed with the digits of the text that was sent; a status and a summary send no texts
 abbrev pub checksum_sent : Purpose → Option (List ℕ) → Option (List ℕ)
 checksum_sent Update text = option_map digits_of text
 checksum_sent Switch text = option_map digits_of text
 checksum_sent Status text = None
+checksum_sent Diff text = option_map digits_of text
+checksum_sent Summary text = None
 
 -- what is told of an entry that was entered under a token; a file is closed at once
 abbrev pub news_commands : Purpose → EntryKind → List ℕ → News → List EditorCommand

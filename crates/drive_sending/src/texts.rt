@@ -102,8 +102,8 @@ fn checksum_sent(
         return Ok(None);
     };
     match purpose {
-        Purpose::Status => Ok(None),
-        Purpose::Update | Purpose::Switch => Ok(Some(text.digest_text(alloc)?)),
+        Purpose::Status | Purpose::Summary => Ok(None),
+        Purpose::Update | Purpose::Switch | Purpose::Diff => Ok(Some(text.digest_text(alloc)?)),
     }
 }
 

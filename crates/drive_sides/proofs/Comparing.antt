@@ -1,13 +1,15 @@
 -- What is known of a path is what stands there on either side of a drive.
-use Rattle.std.proofs.Common.{◌≡◌, ℕ, Bool, true, false, cond, [], Option, Some, None, option_map, refl, sym, ap, ◌∙◌}
+use Rattle.std.proofs.Common.{◌≡◌, ℕ, Bool, true, false, cond, ◌&&◌, ◌||◌, [], Option, Some, None, option_map, refl, sym, ap, ◌∙◌}
 use Rattle.std.specs.Prelude.{is_some}
 use Rattle.svnpath.specs.Paths.{PathValue}
-use Rattle.repo_api.specs.{States.{RepoState, trees_in}, Trees.Tree, declared.entry.Entry.Entry}
+use Rattle.repo_api.specs.{States.{RepoState, trees_in}, Trees.{revision_of, Tree}, declared.entry.Entry.Entry}
+use Rattle.drive_rules.specs.{Scopes.within, Steps.node_of}
+use Rattle.reporter.specs.Walks.{IsSame}
 use Rattle.drive_reports.specs.{Aims.aim_at, Places.{in_place, reported_subtree}, Reported.{ReportedEntry, reported_as, top_entry}, declared.graft.Subtree.Subtree}
-use Rattle.drive_reports.specs.{Targets.{WholeReport, client_entries, drive_scope, new_tree, old_tree, target_entries}, declared.reported.ReportedPlace.ReportedPlace}
+use Rattle.drive_reports.specs.{Targets.{WholeReport, client_entries, drive_scope, is_stale, is_to_be_opened, new_tree, old_tree, target_entries}, declared.reported.ReportedPlace.ReportedPlace}
 use Rattle.drive_reports.proofs.Aiming.{entry_stands}
 use Rattle.drive_news.specs.{Places.entry_had, declared.news.Had.Had}
-use Rattle.drive_sides.specs.{Known.{IsHadAt, IsKnownOf}, declared.known.DriveKnown.DriveKnown}
+use Rattle.drive_sides.specs.{Known.{IsHadAt, IsKnownOf}, Plans.drive_trees, declared.known.DriveKnown.DriveKnown}
 
 -- the entry at a place
 placed_entry : (trees : ℕ → Tree) (place : ReportedPlace) → option_map (λ (h : ReportedEntry). h.entry) (in_place trees place []) ≡ option_map (top_entry place.starts_empty) (trees place.revision place.path)
@@ -51,3 +53,17 @@ new_known c report p known so scope some =
   where
     led : target_entries c report p ≡ (aim_at c report p).entry
     led = ap (λ b. cond b (aim_at c report p).entry None) so.under
+
+-- outside the scope nothing stands on either side, and nothing is due
+pub outside_is_same : (c : RepoState) (report : WholeReport) (p : PathValue) → drive_scope c report p ≡ false → IsSame (drive_trees c report) p
+outside_is_same c report p out = record {
+  node = ap (option_map node_of) nothing;
+  created = λ counted. ap (option_map (λ (e : Entry). revision_of e.last)) nothing;
+  quiet = ap (λ b. b && (is_stale c report p || is_to_be_opened c report p)) out;
+}
+  where
+    left : (t : Tree) → within (drive_scope c report) t p ≡ None
+    left t = ap (λ b. cond b (t p) None) out
+
+    nothing : old_tree c report p ≡ new_tree c report p
+    nothing = left (client_entries c report) ∙ sym (left (target_entries c report))

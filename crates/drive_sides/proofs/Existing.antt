@@ -11,6 +11,7 @@ use Rattle.repo_api.specs.{declared.entry.Content.Content, declared.entry.Conten
 use Rattle.drive_rules.proofs.Joined.{any_append, or_left, or_right, and_both}
 use Rattle.drive_rules.specs.{Scopes.{below, depth_below}, Steps.{node_of, property_values}, declared.depth.Depth.Depth}
 use Rattle.drive_rules.specs.declared.depth.Depth.TheVariants.{Empty, Files, Immediates, Infinity}
+use Rattle.drive_wire.specs.Sent.{counts_changes}
 use Rattle.drive_news.proofs.Changes.{none_changed}
 use Rattle.drive_news.specs.{News.property_changes, Places.{AreLike, AreUnlike}}
 use Rattle.reporter.proofs.{Children.{AreDistinct, children_all, children_are}, Existing.{IsDecided, some_left}}
@@ -62,25 +63,39 @@ same_values a b = by (length (property_changes a b) == 0) refl
     by true e = inl ((none_changed a b (property_changes a b) refl).0 e)
     by false e = inr (λ s. false≢true (sym e ∙ (none_changed a b (property_changes a b) refl).1 s))
 
-of_values : (x y : Entry) → revision_of x.last ≡ revision_of y.last → x.content ≡ y.content → IsDecidable (property_values x.properties ≡ property_values y.properties) → AreUnlike (Some x) (Some y) ⊎ AreLike (Some x) (Some y)
-of_values x y made content decided = ⊎_elim (λ values. inr (λ i. Some (content i, values i), ap Some made)) (λ differ. inl (λ s. differ (ap (λ n. n.1) (same_Some (node_of x) (node_of y) s.0)))) decided
+-- the last changes are of one revision, as far as they count, or they count and are not
+abbrev AreMade : Bool → Entry → Entry → Type 0
+AreMade changes x y =
+    (changes ≡ true → revision_of x.last ≡ revision_of y.last)
+    ⊎ ((changes ≡ true) × (revision_of x.last ≡ revision_of y.last → ⊥))
 
-both_there : (x y : Entry) → IsDecidable (revision_of x.last ≡ revision_of y.last) → IsDecidable (x.content ≡ y.content) → AreUnlike (Some x) (Some y) ⊎ AreLike (Some x) (Some y)
-both_there x y (inr differ) content = inl (λ s. differ (ap revision_of (same_Some x.last y.last s.1)))
-both_there x y (inl made) (inr differ) = inl (λ s. differ (ap (λ n. n.0) (same_Some (node_of x) (node_of y) s.0)))
-both_there x y (inl made) (inl content) = of_values x y made content (same_values x.properties y.properties)
+are_made : (changes : Bool) (x y : Entry) → IsDecidable (revision_of x.last ≡ revision_of y.last) → AreMade changes x y
+are_made changes x y (inl same) = inl (λ counted. same)
+are_made true x y (inr differ) = inr (refl, differ)
+are_made false x y (inr differ) = inl (λ counted. absurd (false≢true counted))
+
+of_values : (changes : Bool) (x y : Entry) → (changes ≡ true → revision_of x.last ≡ revision_of y.last) → x.content ≡ y.content → IsDecidable (property_values x.properties ≡ property_values y.properties) → AreUnlike changes (Some x) (Some y) ⊎ AreLike changes (Some x) (Some y)
+of_values changes x y made content decided = ⊎_elim (λ values. inr (λ i. Some (content i, values i), λ counted. ap Some (made counted))) (λ differ. inl (λ s. differ (ap (λ n. n.1) (same_Some (node_of x) (node_of y) s.0)))) decided
+
+both_there : (changes : Bool) (x y : Entry) → AreMade changes x y → IsDecidable (x.content ≡ y.content) → AreUnlike changes (Some x) (Some y) ⊎ AreLike changes (Some x) (Some y)
+both_there changes x y (inr differ) content = inl (λ s. differ.1 (ap revision_of (same_Some x.last y.last (s.1 differ.0))))
+both_there changes x y (inl made) (inr differ) = inl (λ s. differ (ap (λ n. n.0) (same_Some (node_of x) (node_of y) s.0)))
+both_there changes x y (inl made) (inl content) = of_values changes x y made content (same_values x.properties y.properties)
 
 -- two entries are alike, or not
-alike_or_not : (e f : Option Entry) → AreUnlike e f ⊎ AreLike e f
-alike_or_not None None = inr (refl, refl)
-alike_or_not None (Some y) = inl (λ s. false≢true (ap is_some s.0))
-alike_or_not (Some x) None = inl (λ s. false≢true (sym (ap is_some s.0)))
-alike_or_not (Some x) (Some y) = both_there x y (same_revision (revision_of x.last) (revision_of y.last)) (same_content x.content y.content)
+alike_or_not : (changes : Bool) (e f : Option Entry) → AreUnlike changes e f ⊎ AreLike changes e f
+alike_or_not changes None None = inr (refl, λ counted. refl)
+alike_or_not changes None (Some y) = inl (λ s. false≢true (ap is_some s.0))
+alike_or_not changes (Some x) None = inl (λ s. false≢true (sym (ap is_some s.0)))
+alike_or_not changes (Some x) (Some y) = both_there changes x y (are_made changes x y (same_revision (revision_of x.last) (revision_of y.last))) (same_content x.content y.content)
 
 decided : (c : RepoState) (report : WholeReport) (p : PathValue) → IsDecided (drive_trees c report) p
-decided c report p = by (due_in c report p) refl (alike_or_not (old_tree c report p) (new_tree c report p))
+decided c report p = by (due_in c report p) refl (alike_or_not changes (old_tree c report p) (new_tree c report p))
   where
-    by : (b : Bool) → due_in c report p ≡ b → AreUnlike (old_tree c report p) (new_tree c report p) ⊎ AreLike (old_tree c report p) (new_tree c report p) → IsDecided (drive_trees c report) p
+    changes : Bool
+    changes = counts_changes report.ask.purpose
+
+    by : (b : Bool) → due_in c report p ≡ b → AreUnlike changes (old_tree c report p) (new_tree c report p) ⊎ AreLike changes (old_tree c report p) (new_tree c report p) → IsDecided (drive_trees c report) p
     by true stale any = inl (inr stale)
     by false quiet (inl unlike) = inl (inl unlike)
     by false quiet (inr like) = inr (record { node = like.0; created = like.1; quiet = quiet })

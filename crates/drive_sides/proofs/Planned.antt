@@ -7,7 +7,7 @@ use Rattle.svnpath.specs.{PathLaws.{same_path_is, same_path_refl}, Paths.{is_at_
 use Rattle.refusals.specs.declared.Refusal.TheVariants as refusals
 use Rattle.repo_api.specs.{Soundness.AreTrees, States.{RepoState, trees_in}, Trees.{HasDirectory, is_directory, is_directory_there}, declared.entry.Entry.Entry}
 use Rattle.drive_rules.specs.{Places.is_in_directory, Drives.{IsInBoth, IsOfOneKind}, Scopes.{below, scope_of, under}}
-use Rattle.drive_wire.specs.Sent.{seen_by}
+use Rattle.drive_wire.specs.Sent.{counts_of}
 use Rattle.drive_news.specs.News.{own_steps_of}
 use Rattle.reporter.specs.{Left.{IsRootPlan, IsTopPlan}, Nesting.AreNested, Visits.IsRightPlan, Walks.BothHold, Visits.Visit}
 use Rattle.reporter.specs.Visits.Visit.{Open}
@@ -94,7 +94,7 @@ root_kept c report root done is =
 -- ---- plans
 
 abbrev pub IsRightFor : RepoState → WholeReport → PathValue → List Visit → Type 0
-IsRightFor c report top visits = IsRightPlan (seen_by report.ask.purpose) (under top) (due_in c report) (is_apart c report) (old_tree c report) (new_tree c report) (own_steps_of c report) visits
+IsRightFor c report top visits = IsRightPlan (counts_of report.ask.purpose) (under top) (due_in c report) (is_apart c report) (old_tree c report) (new_tree c report) (own_steps_of c report) visits
 
 -- what is in scope is there
 scoped : (b : Bool) (o : Option Entry) → is_some (cond b o None) ≡ true → b ≡ true

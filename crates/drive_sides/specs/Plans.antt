@@ -6,7 +6,7 @@ use Rattle.drive_rules.specs.Scopes.{under}
 use Rattle.reporter.specs.{Nesting.walk, Visits.IsRightPlan, Walks.WalkedTrees, Visits.Visit, Visits.Visit.Open}
 use Rattle.drive_reports.specs.{Refusing.OpenState, Targets.{WholeReport, due_in, is_apart, old_tree, new_tree}, declared.ask.DriveAsk.DriveAsk}
 use Rattle.drive_reports.specs.declared.report.ReportRoot.{ReportRoot}
-use Rattle.drive_wire.specs.Sent.{seen_by}
+use Rattle.drive_wire.specs.Sent.{counts_of}
 use Rattle.drive_news.specs.News.{own_steps_of}
 
 -- a report that has come to its end
@@ -20,7 +20,7 @@ drive_trees c report = record {
   new = new_tree c report;
   due = due_in c report;
   apart = is_apart c report;
-  seen = seen_by report.ask.purpose;
+  counts = counts_of report.ask.purpose;
   own = own_steps_of c report;
 }
 
@@ -30,7 +30,7 @@ from_top ask visits = if same_path ask.target [] then Open [] true ∷ visits el
 
 -- visits from the open root on, which lead from what the client has to what it is to have
 pub record IsPlan (c : RepoState) (report : WholeReport) (visits : List Visit) : Type 0 where
-  pub right : IsRightPlan (seen_by report.ask.purpose) (under report.ask.target)
+  pub right : IsRightPlan (counts_of report.ask.purpose) (under report.ask.target)
       (due_in c report) (is_apart c report) (old_tree c report) (new_tree c report)
       (own_steps_of c report) (from_top report.ask visits)
   pub nests : (ds : List PathValue)

@@ -22,6 +22,7 @@ impl<'a, R: Repository> TwoTrees<'a, R> {
     ghost use Rattle.drive_sides.specs.{Known.IsKnownOf, Names.{NameNew, NameTarget}, OnTrees.on_trees, Plans.drive_trees};
     ghost use Rattle.reporter.specs.{Knowing.IsKnown, Walks.IsListed};
     ghost use Rattle.drive_news.specs.Places.{Compares};
+    ghost use Rattle.drive_wire.specs.Sent.{counts_changes};
 
     /// Finds the names of what is to exist straight beneath a path, as far as the client does not have it.
     fn target_names(
@@ -101,19 +102,22 @@ impl<'a, R: Repository> TwoTrees<'a, R> {
     fn differs(&self, alloc: Global, place: &DrivePlace) -> Result<bool, AllocError>
         requires scope { on_trees self.now drive_scope place.now.path ≡ true }
         requires known { IsKnown (on_trees self.now IsKnownOf) place.now }
-        ensures { IfOk result (λ answer. Compares answer
+        ensures { IfOk result (λ answer. Compares
+            (counts_changes self.now.report.now.ask.purpose) answer
             (on_trees self.now old_tree place.now.path) (on_trees self.now new_tree place.now.path)) }
     {
-        let revision = self.report.ask.revision;
+        let ask = &self.report.ask;
         match &place.known.had {
             None => Ok(self.kind_to_be(place).is_present()),
             Some(had) => {
                 if !self.kind_to_be(place).is_present() {
                     return Ok(true);
                 }
-                let path = &place.known.goal;
-                let new = Place { revision, path };
-                entries_differ(alloc, self.view, had_at(had), new)
+                let new = Place {
+                    revision: ask.revision,
+                    path: &place.known.goal,
+                };
+                entries_differ(alloc, self.view, ask.purpose, had_at(had), new)
             }
         }
     }

@@ -14,7 +14,7 @@ use Rattle.wire_edits.specs.{declared.editing.EditorCommand.TheVariants.AbortEdi
 use Rattle.wire_edits.specs.declared.editing.PropertyChange.{PropertyChange}
 use Rattle.drive_rules.specs.{Places.is_in_directory, Steps.{EntryKind, Step}, Steps.EntryKind.{DirectoryKind, FileKind}}
 use Rattle.drive_rules.specs.Steps.Step.{AddAt, DeleteAt, OpenAt, PropertyAt, TextAt}
-use Rattle.drive_reports.specs.{declared.ask.Purpose.Purpose, declared.ask.Purpose.TheVariants.{Update, Switch, Status}}
+use Rattle.drive_reports.specs.{declared.ask.Purpose.Purpose, declared.ask.Purpose.TheVariants.{Update, Switch, Status, Diff, Summary}}
 
 -- what was sent of a file's text: nothing, some bytes of a delta, or a whole delta, with its text
 pub data TextState : Type 0 where
@@ -96,27 +96,29 @@ abbrev pub property_said : List OpenEntry → PropertyChange → EntryKind → S
 property_said hs p kind =
     of_newest hs p.token kind (λ h rest. Some (PropertyAt h.path p.name p.value ∷ [], h ∷ rest))
 
--- an update and a switch send texts; a status sends none
+-- a status and a summary send no texts
 abbrev pub sends_texts : Purpose → Bool
 sends_texts Update = true
 sends_texts Switch = true
 sends_texts Status = false
+sends_texts Diff = true
+sends_texts Summary = false
 
 -- the checksum is that of the text
 abbrev pub is_checksum : List ℕ → List ℕ → Bool
 is_checksum text digits = is_name digits (encode_lower (md5 text))
 
--- the checksum of a text that the client has need not be sent; a status sends none
+-- the checksum of a text that the client has need not be sent; without texts none is
 abbrev pub is_base_checksum : Purpose → List ℕ → Option (List ℕ) → Bool
 is_base_checksum purpose text None = true
 is_base_checksum purpose text (Some digits) = sends_texts purpose && is_checksum text digits
 
--- a text that is sent comes with its checksum; a status sends none
+-- a text that is sent comes with its checksum; without texts none comes
 abbrev pub is_sent_checksum : Purpose → List ℕ → Option (List ℕ) → Bool
 is_sent_checksum purpose text None = not (sends_texts purpose)
 is_sent_checksum purpose text (Some digits) = sends_texts purpose && is_checksum text digits
 
--- a status sends the header of a delta alone
+-- without texts the header of a delta comes alone
 abbrev pub is_sent_delta : Purpose → List ℕ → Bool
 is_sent_delta purpose document = sends_texts purpose || is_name document header
 
@@ -151,8 +153,7 @@ file_closed purpose checksum (Received text) h hs = when (is_sent_checksum purpo
 
 -- ---- commands
 
--- What a command of an update, a switch or a status says, and what is open after it, where it has
--- its place. The top is the target, and the base the text that the client has of a file.
+-- What a command of a drive says, and what is open after it, where it has its place. The top is the target, and the base the text that the client has of a file.
 abbrev pub steps_said : Purpose → PathValue → (PathValue → List ℕ) → List OpenEntry
     → EditorCommand → Said
 steps_said purpose top base hs (TargetRevision n) = None

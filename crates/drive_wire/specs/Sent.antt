@@ -1,19 +1,33 @@
 -- The drives that may be sent.
-use Rattle.std.specs.Prelude.{◌≡◌, ℕ, Bool, ◌||◌, List, [], ◌∷◌, ◌++◌, Option, Some, None, IsTrue, IsSomeAnd, if◌then◌else◌}
+use Rattle.std.specs.Prelude.{◌≡◌, ℕ, Bool, true, false, ◌||◌, List, [], ◌∷◌, ◌++◌, Option, Some, None, IsTrue, IsSomeAnd, if◌then◌else◌}
 use Rattle.svnpath.specs.Paths.{PathValue, same_path}
 use Rattle.repo_api.specs.{States.RepoState, Trees.{text_of, Tree}}
 use Rattle.wire_edits.specs.{declared.editing.EditorCommand.EditorCommand, declared.editing.EditorCommand.TheVariants.{TargetRevision, OpenRoot, CloseEdit}}
-use Rattle.drive_rules.specs.{Drives.IsRight, Steps.{as_it_is, but_text, has_step, is_adding, is_entry_property, is_opening, Node, Step}}
+use Rattle.drive_rules.specs.{Drives.{Counts, IsRight}, Steps.{as_it_is, but_text, has_step, is_adding, is_entry_property, is_opening, Node, Step}}
 use Rattle.drive_rules.specs.{Steps.EntryKind.DirectoryKind, Steps.Step.OpenAt}
 use Rattle.drive_reports.specs.{Targets.{WholeReport, old_tree, new_tree, drive_scope, due_in, is_apart, stale_in}, declared.ask.DriveAsk.DriveAsk}
-use Rattle.drive_reports.specs.{declared.ask.Purpose.Purpose, declared.ask.Purpose.TheVariants.{Update, Switch, Status}}
+use Rattle.drive_reports.specs.{declared.ask.Purpose.Purpose, declared.ask.Purpose.TheVariants.{Update, Switch, Status, Diff, Summary}}
 use Rattle.drive_wire.specs.{EntryProperties.{entry_property, told}, Saying.{OpenEntry, Says}, Saying.TextState.Unchanged}
 
--- a status sends no texts
+-- a status and a summary send no texts
 abbrev pub seen_by : Purpose → Node → Node
 seen_by Update = as_it_is
 seen_by Switch = as_it_is
 seen_by Status = but_text
+seen_by Diff = as_it_is
+seen_by Summary = but_text
+
+-- a diff is of what entries are, and not of when they were changed last
+abbrev pub counts_changes : Purpose → Bool
+counts_changes Update = true
+counts_changes Switch = true
+counts_changes Status = true
+counts_changes Diff = false
+counts_changes Summary = false
+
+-- what counts of an entry
+abbrev pub counts_of : Purpose → Counts
+counts_of purpose = record { seen = seen_by purpose; changes = counts_changes purpose }
 
 -- the text, or an empty one
 abbrev pub or_no_text : Option (List ℕ) → List ℕ
@@ -53,7 +67,7 @@ TellsEach c report steps =
 -- of which a token is stale, or that the client is to open
 abbrev pub LeadsToTarget : RepoState → WholeReport → List Step → Type 0
 LeadsToTarget c report steps =
-    IsRight (seen_by report.ask.purpose) (drive_scope c report) (due_in c report)
+    IsRight (counts_of report.ask.purpose) (drive_scope c report) (due_in c report)
     (is_apart c report) (old_tree c report) (new_tree c report) steps
 
 -- the commands around the commands of a drive: of its revision, and from the root, which is of the

@@ -3,3 +3,4 @@ pub mod Cutting
 pub mod Exact
 pub mod Searching
 mod Rows
+pub mod Passed

@@ -3,3 +3,4 @@ pub mod Quiet
 pub mod Refusing
 pub mod Resting
 pub mod Sound
+pub mod FileTexts

@@ -10,19 +10,20 @@ use Rattle.repo_api.specs.{RevisionProperties.property_refusal, States.{RepoStat
 use Rattle.repo_api.specs.{declared.lock_ask.UnlockAsk.UnlockAsk, declared.property_ask.PropertyAsk.PropertyAsk}
 use Rattle.dates.specs.Dates.{IsDateText}
 use Rattle.commands.specs.{declared.command.CommitCommand.CommitCommand, declared.command.DriveCommand.DriveCommand}
-use Rattle.commands.specs.{declared.command.DriveCommand.TheVariants.{Update, Switch, Status}, declared.command.MainCommand.MainCommand}
+use Rattle.commands.specs.{declared.command.DriveCommand.TheVariants.{Update, Switch, Status, Diff}, declared.command.MainCommand.MainCommand}
 use Rattle.commands.specs.declared.command.MainCommand.TheVariants.{Read, Drive, Commit, AbortEdit, Lock, Unlock, ChangeRevProp, Reparent}
 use Rattle.commands.specs.{declared.command.ReadCommand.ReadCommand, declared.command.ReadCommand.TheVariants.{GetLatestRev, CheckPath, RevProplist, GetLock}}
 use Rattle.commands.specs.declared.command.ReadCommand.TheVariants.{GetLocks, GetFile, GetDir, Stat, GetDatedRev, RevProp, Log, GetLocations, History}
-use Rattle.commands.specs.{declared.command.HistoryCommand.HistoryCommand, declared.command.HistoryCommand.TheVariants.{GetLocationSegments, GetDeletedRev}}
+use Rattle.commands.specs.{declared.command.HistoryCommand.HistoryCommand, declared.command.HistoryCommand.TheVariants.{GetLocationSegments, GetDeletedRev, GetFileRevs}}
 use Rattle.commands.specs.{declared.command.LockCommand.LockCommand, declared.command.UnlockCommand.UnlockCommand}
 use Rattle.wire_replies.specs.{Replies.uuid_text, declared.reply.Reply.Reply}
 use Rattle.wire_replies.specs.declared.reply.Reply.TheVariants as replies
 use Rattle.drive_reports.specs.{Refusing.{ask_of, begun_report}, declared.ask.DriveAsk.DriveAsk}
+use Rattle.drive_reports.specs.declared.ask.Purpose.{Purpose}
 use Rattle.drive_reports.specs.declared.ask.Purpose.TheVariants as purposes
 use Rattle.edit_rules.specs.Edits.{new_edit}
 use Rattle.machine.specs.{Settings.Settings, Answers.{Verdict, Answer, Step, says, serves, change_answer, ChangeStep, Always, Shows}}
-use Rattle.machine.specs.{Answers.Verdict.{Written, NotWritten, Unknown}, Dates.is_refused_date, Histories.{all_joined, deleted_reply, log_replies, locations_replies, segments_replies}}
+use Rattle.machine.specs.{Answers.Verdict.{Written, NotWritten, Unknown}, Dates.is_refused_date, Histories.{all_joined, deleted_reply, file_revisions_replies, log_replies, locations_replies, segments_replies}}
 use Rattle.machine.specs.{Readings.{place_read, file_replies, directory_reply, stat_reply, dated_reply, property_reply}, declared.env.Env.Env}
 use Rattle.machine.specs.{declared.commit_parameters.CommitParameters.CommitParameters, declared.phase.Phase.TheVariants.{Serving, Editing, Reporting}}
 use Rattle.machine.specs.{declared.comments.TheConstants.COMMENT_LIMIT, declared.phase.Client.Client}
@@ -61,6 +62,8 @@ history_replies client (GetLocationSegments command) c =
     segments_replies client.is_of_today c command (joined client.path command.path)
 history_replies client (GetDeletedRev command) c =
     deleted_reply c command (joined client.path command.path) ∷ []
+history_replies client (GetFileRevs command) c =
+    file_revisions_replies client.is_of_today c command (joined client.path command.path)
 
 -- what a client is told where the repository is read, as it is seen from the path of its URL
 abbrev pub read_replies : Client → ReadCommand → RepoState → List Reply
@@ -93,6 +96,11 @@ read_answer env client command c = says env (Serving client) (read_replies clien
 
 -- ---- the beginning of a report
 
+-- a diff is with texts or without
+abbrev pub diff_purpose : Bool → Purpose
+diff_purpose true = purposes.Diff
+diff_purpose false = purposes.Summary
+
 -- what a command of a client, of today or another, asks a report for, or why it is refused
 abbrev pub drive_ask : RepoState → Bool → List ℕ → PathValue → DriveCommand
     → Result DriveAsk Refusal
@@ -102,6 +110,9 @@ drive_ask c is_of_today name path (Switch request url) =
     ask_of c is_of_today name path purposes.Switch request (Some url)
 drive_ask c is_of_today name path (Status request) =
     ask_of c is_of_today name path purposes.Status request None
+drive_ask c is_of_today name path (Diff request) =
+    ask_of c is_of_today name path (diff_purpose request.sends_texts) request.drive
+    (Some request.url)
 
 -- a report begins, with its refusal if there is one
 abbrev pub drive_begins : Settings → Env → Client → DriveCommand → RepoState → Answer

@@ -4,15 +4,18 @@ use Rattle.std.specs.List.{find, list_all, list_any}
 use Rattle.svnpath.specs.{Listings.listing, Paths.PathValue, Texts.joined, declared.fault.PathFault.PathFault}
 use Rattle.refusals.specs.{declared.Refusal.Refusal, Refusing.path_refusal}
 use Rattle.refusals.specs.declared.Refusal.TheVariants as refusals
-use Rattle.repo_api.specs.{Histories.{Changed, history_of}, Kinds.{is_present, kind_at}, States.{RepoState, youngest}}
+use Rattle.repo_api.specs.{Histories.{Changed, history_of}, Kinds.{is_file_kind, is_present, kind_at, properties_at, text_at}, Properties.{is_same_value, PropertyList}}
+use Rattle.repo_api.specs.States.{RepoState, youngest}
 use Rattle.traces.specs.declared.place.Place.{Place}
 use Rattle.history.specs.{Locations.{kind_shown, locations}, Logs.{log, newest_asked, place_at}, declared.log_ask.LogAsk.LogAsk}
-use Rattle.file_histories.specs.{Deleted.deleted_revision, Segments.{cut, segments}, declared.segment.Segment.Segment}
+use Rattle.file_histories.specs.{Deleted.deleted_revision, Differing.differing, FileRevisions.file_revisions, Segments.{cut, segments}, declared.segment.Segment.Segment}
 use Rattle.commands.specs.{declared.command.GetLocationsCommand.GetLocationsCommand, declared.command.LogCommand.LogCommand}
-use Rattle.commands.specs.{declared.command.GetDeletedRevCommand.GetDeletedRevCommand, declared.command.GetLocationSegmentsCommand.GetLocationSegmentsCommand}
+use Rattle.commands.specs.{declared.command.GetDeletedRevCommand.GetDeletedRevCommand, declared.command.GetFileRevsCommand.GetFileRevsCommand}
+use Rattle.commands.specs.declared.command.GetLocationSegmentsCommand.{GetLocationSegmentsCommand}
+use Rattle.wire_deltas.specs.Deltas.{delta_chunks}
 use Rattle.wire_replies.specs.{Replies.logged_change, declared.histories.LoggedChange.LoggedChange, declared.reply.Reply.Reply}
 use Rattle.wire_replies.specs.declared.reply.Reply.TheVariants as replies
-use Rattle.machine.specs.{Answers.failure_at, Readings.{author_of, revision_date, revision_value}}
+use Rattle.machine.specs.{Answers.failure_at, Readings.{author_of, entry_properties, no_file, revision_date, revision_value}}
 
 -- ---- the end of what is listed
 
@@ -186,3 +189,74 @@ deleted_reply c command (Ok path) =
     let high = max command.peg command.end in
     if is_to_come c high then replies.Failure refusals.NoSuchRevision None
     else deleted_found (deleted_revision c path low high)
+
+-- ---- the revisions of a file
+
+-- why the revisions of a file are refused: the greater revision is above the youngest, merged ones
+-- are wanted too, or the path is no file there
+abbrev pub file_revisions_refusal : RepoState → Bool → Place → Option Refusal
+file_revisions_refusal c wants_merged at =
+    if is_to_come c at.revision then Some refusals.NoSuchRevision
+    else if wants_merged then Some refusals.NotSupported
+    else if is_file_kind (kind_at c at.revision at.path) then None
+    else Some (no_file (kind_at c at.revision at.path))
+
+-- the text, of no bytes where there is none
+abbrev pub text_or_empty : Option (List ℕ) → List ℕ
+text_or_empty None = []
+text_or_empty (Some text) = text
+
+-- the text and the properties of a file that was sent before, if one was
+abbrev pub text_before : RepoState → Option Place → List ℕ
+text_before c None = []
+text_before c (Some at) = text_or_empty (text_at c at.revision at.path)
+
+abbrev pub properties_before : RepoState → Option Place → PropertyList
+properties_before c None = []
+properties_before c (Some at) = entry_properties c at.revision at.path
+
+-- whether the file has the text that was sent before
+abbrev pub has_text_of : RepoState → Option Place → Place → Bool
+has_text_of c None at = false
+has_text_of c (Some before) at =
+    is_same_value (text_at c before.revision before.path) (text_at c at.revision at.path)
+
+-- a revision of a file: its path there, the properties of the revision, and what differs in those of
+-- the file from what was sent before
+abbrev pub file_revision_head : RepoState → Option Place → Place → Reply
+file_revision_head c before at = replies.FileRevision (record {
+  path = at.path;
+  revision = at.revision;
+  properties = properties_at c at.revision;
+  changes = differing (properties_before c before) (entry_properties c at.revision at.path);
+})
+
+-- the text, as a delta, if it is another than before
+abbrev pub delta_told : Bool → List ℕ → List ℕ → List Reply
+delta_told true before text = []
+delta_told false before text = map replies.Chunk (delta_chunks before text)
+
+-- all that is told of a revision of a file, behind what was sent before
+abbrev pub file_revision_told : RepoState → Option Place → Place → List Reply
+file_revision_told c before at =
+    file_revision_head c before at
+    ∷ (delta_told (has_text_of c before at) (text_before c before) (text_before c (Some at))
+    ++ replies.Chunk [] ∷ [])
+
+-- revisions of a file, each as it differs from the one before
+abbrev pub told_in_turn : RepoState → Option Place → List Place → List Reply
+told_in_turn c before [] = []
+told_in_turn c before (at ∷ places) =
+    file_revision_told c before at ++ told_in_turn c (Some at) places
+
+-- a bad path is refused before a revision, and that before what is there
+abbrev pub file_revisions_replies : Bool → RepoState → GetFileRevsCommand
+    → Result PathValue PathFault → List Reply
+file_revisions_replies is_of_today c command (Err fault) =
+    ended (replies.Failure (path_refusal fault) None)
+file_revisions_replies is_of_today c command (Ok path) =
+    let start = or_youngest c command.start in
+    let end = or_youngest c command.end in
+    listed_unless is_of_today
+    (file_revisions_refusal c command.wants_merged (place_at (max start end) path)) (Some path)
+    (told_in_turn c None (file_revisions (history_of c) path start end))

@@ -11,3 +11,4 @@ pub mod Logins
 pub mod Machine
 pub mod Steps
 pub mod Soundness
+pub mod FileTexts

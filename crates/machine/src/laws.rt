@@ -1,9 +1,10 @@
 //! What holds of all that a stream brings. The functions do nothing: their contracts are the laws.
-ghost use Rattle.std.specs.Prelude.{◌≡◌, ℕ, List, Bool, Result};
+ghost use Rattle.std.specs.Prelude.{◌≡◌, ℕ, List, Bool, None, Result};
+ghost use Rattle.traces.specs.declared.place.Place.{Place};
 ghost use Rattle.wire_edits.specs.declared.editing.EditorCommand.{EditorCommand};
 ghost use Rattle.wire_forms.specs.declared.fault.CommandFault.{CommandFault};
 ghost use Rattle.repo_api.specs.States.{RepoState};
-ghost use Rattle.machine.specs.{Settings.Settings, Stages.{Stage, EditRests, StandsOn}, Soundness.MeetBy, Answers.{Answer, content_after}};
+ghost use Rattle.machine.specs.{FileTexts.FollowInTurn, Settings.Settings, Stages.{Stage, EditRests, StandsOn}, Soundness.MeetBy, Answers.{Answer, content_after}};
 ghost use Rattle.machine.specs.{Machine.{EditingStep, InputStep, MachineEdit, UnreleasedStep}, Hearing.{Input, Yields, HasNoMore, EndsBroken}};
 ghost use Rattle.machine.specs.{declared.env.Env.Env, declared.phase.Phase.TheVariants.Editing};
 
@@ -48,3 +49,9 @@ pub fn steps_keep_trees()
     repo_laws::accepted_commits_meet_well();
     repo_laws::commits_keep_both_sides();
 }
+
+/// Shows that of the revisions of a file that a client is told, the deltas one after another give each revision's text, and
+/// where there is no delta it is the text of the one before.
+pub fn file_texts_follow()
+    ensures { (c : RepoState) (places : List Place) → FollowInTurn c None places }
+{}

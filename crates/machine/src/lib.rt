@@ -20,7 +20,7 @@ pub use drive_failures::drive_failure;
 pub use ending::{Ending, ending_of};
 pub use env::Env;
 pub use failures::failure_at;
-pub use laws::{one_hearing, steps_keep_trees, steps_rest};
+pub use laws::{file_texts_follow, one_hearing, steps_keep_trees, steps_rest};
 pub use login::{Mechanism, OpenChallenge, OpenLogin, chosen, offer};
 pub use options::{Options, is_repository_name};
 pub use phase::{Client, OpenEdit, OpenReporting, Phase};

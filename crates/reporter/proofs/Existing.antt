@@ -50,7 +50,7 @@ module _ (t : WalkedTrees) (bound : ℕ) (ends : IsShorter t.new bound) (leads :
       opens kept (v ∷ vs, file, below) (inr is) = (
         entry_visits (is_directory_there (t.new p)) (Open p (is_directory_there (t.new p))) (v ∷ vs),
         opened t anew (is_directory_there (t.new p)) p (v ∷ vs) leads kept stands refl file
-            (λ sound. reason_of t.seen t.due t.apart t.old t.new t.own p (v ∷ vs) (inr (inl (λ e. cc))) (below.nests p) (below.right sound)) below,
+            (λ sound. reason_of t.counts t.due t.apart t.old t.new t.own p (v ∷ vs) (inr (inl (λ e. cc))) (below.nests p) (below.right sound)) below,
       )
 
       by : (b : Bool) → comes t anew p ≡ b → Plan anew p

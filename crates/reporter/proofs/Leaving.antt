@@ -141,17 +141,17 @@ alone_left t here vs (now, later, is, left, none) = subst (IsLeftIn t here) (sym
 -- the visits below a root
 pub root_plan : (t : WalkedTrees) (vs : List Visit) → HasDirectory t.old [] → HasDirectory t.new [] → t.apart [] ≡ false → Leads t → IsPlanBelow t false [] vs → IsRootPlan t vs
 root_plan t vs old new stays leads plan = record {
-  right = λ sound. root_opened t.seen t.due t.apart t.old t.new t.own vs old new stays leads (plan.right sound);
+  right = λ sound. root_opened t.counts t.due t.apart t.old t.new t.own vs old new stays leads (plan.right sound);
   nests = plan.nests [];
 }
 
 -- the visits of a top, which is deleted first where it goes
 top_right : (t : WalkedTrees) (top : PathValue) (vs : List Visit) → BothHold t.apart t.old t.new top → LeftOf t (deletes_of false t.apart t.old t.new (top ∷ [])) false (top ∷ []) vs
-    → IsRightPlan t.seen (under top) t.due t.apart t.old t.new t.own vs
-top_right t top vs sound (rest, is, (now, later, alone, plan, none)) = subst (IsRightPlan t.seen (under top) t.due t.apart t.old t.new t.own) (sym (is ∙ ap (λ us. deletes_of false t.apart t.old t.new (top ∷ []) ++ us) (alone ∙ ap (λ us. now ++ us) none ∙ append-nil now))) (by (goes_at t top) refl (plan.right sound))
+    → IsRightPlan t.counts (under top) t.due t.apart t.old t.new t.own vs
+top_right t top vs sound (rest, is, (now, later, alone, plan, none)) = subst (IsRightPlan t.counts (under top) t.due t.apart t.old t.new t.own) (sym (is ∙ ap (λ us. deletes_of false t.apart t.old t.new (top ∷ []) ++ us) (alone ∙ ap (λ us. now ++ us) none ∙ append-nil now))) (by (goes_at t top) refl (plan.right sound))
   where
-    by : (b : Bool) → goes_at t top ≡ b → IsRightPlan t.seen (under top) t.due t.apart (old_side b t.old) t.new t.own now → IsRightPlan t.seen (under top) t.due t.apart t.old t.new t.own (map Delete (if b then top ∷ [] else []) ++ now)
-    by true g right = top_cut t.seen t.due t.apart t.old t.new t.own top now g sound right
+    by : (b : Bool) → goes_at t top ≡ b → IsRightPlan t.counts (under top) t.due t.apart (old_side b t.old) t.new t.own now → IsRightPlan t.counts (under top) t.due t.apart t.old t.new t.own (map Delete (if b then top ∷ [] else []) ++ now)
+    by true g right = top_cut t.counts t.due t.apart t.old t.new t.own top now g sound right
     by false g right = right
 
 top_nests : (t : WalkedTrees) (top d : PathValue) (vs : List Visit) → is_in_directory top d top ≡ true → LeftOf t (deletes_of false t.apart t.old t.new (top ∷ [])) false (top ∷ []) vs → AreNested t.new top d vs

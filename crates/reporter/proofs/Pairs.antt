@@ -92,13 +92,13 @@ module _ (t : WalkedTrees) (p q : PathValue) (pair : IsSamePair t p q) where
   both_at : (x : PathValue) → is_at_or_under x q ≡ true → IsInBoth t.old t.new x → IsInBoth t.old t.new (p ++ rest_of x)
   both_at x u both = (subst IsSome (sym (old_at x u)) both.0, subst IsSome (sym (new_at x u)) both.1)
 
-  named_as : (x : PathValue) → is_at_or_under x q ≡ true → MustBeNamed t.due t.old t.new x → MustBeNamed t.due t.old t.new (p ++ rest_of x)
+  named_as : (x : PathValue) → is_at_or_under x q ≡ true → MustBeNamed t.counts.changes t.due t.old t.new x → MustBeNamed t.counts.changes t.due t.old t.new (p ++ rest_of x)
   named_as x u must =
-      ⊎_elim (λ other. inl (λ e. other (sym (ap (option_map (λ (y : Entry). revision_of y.last)) (old_at x u)) ∙ e ∙ ap (option_map (λ (y : Entry). revision_of y.last)) (new_at x u)))) (λ due. absurd (false≢true (sym (quiet_at x u) ∙ due))) must
+      ⊎_elim (λ other. inl (other.0, λ e. other.1 (sym (ap (option_map (λ (y : Entry). revision_of y.last)) (old_at x u)) ∙ e ∙ ap (option_map (λ (y : Entry). revision_of y.last)) (new_at x u)))) (λ due. absurd (false≢true (sym (quiet_at x u) ∙ due))) must
 
-  right_as : IsRightPlan t.seen (under p) t.due t.apart t.old t.new t.own [] → IsRightPlan t.seen (under q) t.due t.apart t.old t.new t.own []
+  right_as : IsRightPlan t.counts (under p) t.due t.apart t.old t.new t.own [] → IsRightPlan t.counts (under q) t.due t.apart t.old t.new t.own []
   right_as right = record {
-    ends = λ x u. sym (ap (λ e. option_map t.seen (option_map node_of e)) (old_at x u)) ∙ right.ends (p ++ rest_of x) (inside x) ∙ ap (λ e. option_map t.seen (option_map node_of e)) (new_at x u);
+    ends = λ x u. sym (ap (λ e. option_map t.counts.seen (option_map node_of e)) (old_at x u)) ∙ right.ends (p ++ rest_of x) (inside x) ∙ ap (λ e. option_map t.counts.seen (option_map node_of e)) (new_at x u);
     names = λ x u both must. right.names (p ++ rest_of x) (inside x) (both_at x u both) (named_as x u must);
     texts = λ x u other. absurd (false≢true (right.texts (p ++ rest_of x) (inside x) (text_as x u other)));
     within = λ x named. absurd (false≢true named);
@@ -122,8 +122,8 @@ module _ (t : WalkedTrees) (p q : PathValue) (pair : IsSamePair t p q) where
     goes_as,
     record {
       right = λ sound.
-          subst (λ b. IsRightPlan t.seen (under q) t.due t.apart (old_side b t.old) t.new t.own []) (sym goes_as)
-          (right_as (subst (λ b. IsRightPlan t.seen (under p) t.due t.apart (old_side b t.old) t.new t.own []) stays (plan.right (holds sound))));
+          subst (λ b. IsRightPlan t.counts (under q) t.due t.apart (old_side b t.old) t.new t.own []) (sym goes_as)
+          (right_as (subst (λ b. IsRightPlan t.counts (under p) t.due t.apart (old_side b t.old) t.new t.own []) stays (plan.right (holds sound))));
       nests = λ top d inside. nested_nothing t.new top d;
     },
   )

@@ -5,7 +5,7 @@ use Rattle.std.proofs.{lemmas.List.{length-append, append-nil, append_assoc}, le
 use Rattle.std.specs.{Prelude.{IsTrue, IsSome, IsSomeAnd, is_some, All, IfOk, Result, Ok, Err}, List.list_any}
 use Rattle.svnpath.specs.{PathLaws.{same_path_is, same_path_refl, under_append, under_is, under_itself}, Paths.{is_at_or_under, PathValue, same_path}}
 use Rattle.repo_api.specs.{Trees.{HasDirectory, is_directory, is_directory_there, Tree}, declared.entry.Entry.Entry}
-use Rattle.drive_rules.specs.{Drives.{created_revision, Differs, IsInBoth, IsOfOneKind, IsRight}, Scopes.{below, HoldsTogether, tree_without, under}}
+use Rattle.drive_rules.specs.{Drives.{Counts, created_revision, Differs, IsInBoth, IsOfOneKind, IsRight}, Scopes.{below, HoldsTogether, tree_without, under}}
 use Rattle.drive_rules.specs.Steps.{may_change, Node, node_at, node_of, Step}
 use Rattle.drive_rules.proofs.Joined.{or_cases, or_left, or_right, or_false, and_front, reach_named, joined, nothing, none_some}
 use Rattle.drive_rules.proofs.Entries.{rescoped, under_more, below_under, IsCut, cut, kept, left_out}
@@ -18,15 +18,15 @@ abbrev pub Own : Type 0
 Own = PathValue → Bool → List Step
 
 -- a drive from a tree is one from a tree that is the same at and under the paths in scope
-pub reseated : (seen : Node → Node) (scope due apart : PathValue → Bool) (r s t : Tree) (cs : List Step)
+pub reseated : (counts : Counts) (scope due apart : PathValue → Bool) (r s t : Tree) (cs : List Step)
     → ((q w : PathValue) → scope q ≡ true → is_at_or_under w q ≡ true → scope w ≡ true) → ((q : PathValue) → scope q ≡ true → r q ≡ s q)
-    → IsRight seen scope due apart r t cs → IsRight seen scope due apart s t cs
-reseated seen scope due apart r s t cs down same x = record {
-  ends = λ q h. subst (λ e. option_map seen (fold_from q (option_map node_of e)) ≡ option_map seen (node_at t q)) (same q h) (x.ends q h);
-  names = λ q h both old. x.names q h (subst IsSome (sym (same q h)) both.0, both.1) (⊎_elim (λ o. inl (λ e. o (sym (ap (option_map _) (same q h)) ∙ e))) inr old);
+    → IsRight counts scope due apart r t cs → IsRight counts scope due apart s t cs
+reseated counts scope due apart r s t cs down same x = record {
+  ends = λ q h. subst (λ e. option_map counts.seen (fold_from q (option_map node_of e)) ≡ option_map counts.seen (node_at t q)) (same q h) (x.ends q h);
+  names = λ q h both old. x.names q h (subst IsSome (sym (same q h)) both.0, both.1) (⊎_elim (λ o. inl (o.0, λ e. o.1 (sym (ap (option_map _) (same q h)) ∙ e))) inr old);
   texts = λ q h other. x.texts q h (other.0, ⊎_elim inl (λ d. inr (λ e. d (sym (ap (λ o. option_map (λ (n : Node). n.0) (option_map node_of o)) (same q h)) ∙ e))) other.1);
   within = x.within;
-  reasons = λ q named. ⊎_elim inl (λ w. inr (w.0, w.1, ⊎_elim (λ d. inl (λ both. d (ap (option_map node_of) (same w.0 (down q w.0 (x.within q named) w.1)) ∙ both.0, ap (option_map (λ (e : Entry). e.last)) (same w.0 (down q w.0 (x.within q named) w.1)) ∙ both.1))) (λ more. inr (⊎_elim inl (λ a. inr ((subst IsSome (same w.0 (down q w.0 (x.within q named) w.1)) a.0.0, a.0.1), a.1)) more)) w.2)) (x.reasons q named);
+  reasons = λ q named. ⊎_elim inl (λ w. inr (w.0, w.1, ⊎_elim (λ d. inl (λ both. d (ap (option_map node_of) (same w.0 (down q w.0 (x.within q named) w.1)) ∙ both.0, λ counted. ap (option_map (λ (e : Entry). e.last)) (same w.0 (down q w.0 (x.within q named) w.1)) ∙ both.1 counted))) (λ more. inr (⊎_elim inl (λ a. inr ((subst IsSome (same w.0 (down q w.0 (x.within q named) w.1)) a.0.0, a.0.1), a.1)) more)) w.2)) (x.reasons q named);
   opens = λ q k stays named. x.opens q (subst (λ e. IsSomeAnd e (λ a. IsSomeAnd (t q) (λ b. is_directory a ≡ is_directory b))) (sym (same q (x.within q named))) k) stays named;
   replaces = λ q h both a. x.replaces q h (subst IsSome (sym (same q h)) both.0, both.1) a;
   meets = λ q h. subst (λ e. all_from q (option_map node_of e) ≡ true) (same q h) (x.meets q h);
@@ -174,10 +174,10 @@ all_below p q [] each h = absurd (false≢true h)
 all_below p q (x ∷ xs) each h =
     ⊎_elim (λ a. child_below p q x (All-head (IsChild p) x xs each) a) (λ b. all_below p q xs (All-tail (IsChild p) x xs each) b) (or_cases (is_at_or_under q x) (any_under xs q) h)
 
-pub all_children : (seen : Node → Node) (due apart : PathValue → Bool) (s t : Tree) (p : PathValue) (xs : List PathValue) (cs : List Step) → AreChildren p xs → AreAll s p xs → AreAll t p xs
-    → IsRight seen (any_under xs) due apart s t cs → IsRight seen (below p) due apart s t cs
-all_children seen due apart s t p xs cs children all_s all_t right =
-    rescoped scopes (joined seen rest (any_under xs) due apart s t [] cs disjoint (λ q h. refl) reasons (nothing seen rest due apart s t same) right)
+pub all_children : (counts : Counts) (due apart : PathValue → Bool) (s t : Tree) (p : PathValue) (xs : List PathValue) (cs : List Step) → AreChildren p xs → AreAll s p xs → AreAll t p xs
+    → IsRight counts (any_under xs) due apart s t cs → IsRight counts (below p) due apart s t cs
+all_children counts due apart s t p xs cs children all_s all_t right =
+    rescoped scopes (joined counts rest (any_under xs) due apart s t [] cs disjoint (λ q h. refl) reasons (nothing counts rest due apart s t same) right)
   where
     rest : PathValue → Bool
     rest q = below p q && not (any_under xs q)
@@ -196,7 +196,7 @@ all_children seen due apart s t p xs cs children all_s all_t right =
     none : (q : PathValue) → (below p q && not (any_under xs q)) ≡ true → (s q ≡ None) × (t q ≡ None)
     none q h = (all_s q (and_front (below p q) (not (any_under xs q)) h) (disjoint q h), all_t q (and_front (below p q) (not (any_under xs q)) h) (disjoint q h))
 
-    same : (q : PathValue) → (below p q && not (any_under xs q)) ≡ true → (node_at s q ≡ node_at t q) × (IsInBoth s t q → (created_revision s q ≡ created_revision t q) × ((due q ≡ false) × (apart q ≡ false)))
+    same : (q : PathValue) → (below p q && not (any_under xs q)) ≡ true → (node_at s q ≡ node_at t q) × (IsInBoth s t q → (counts.changes ≡ true → created_revision s q ≡ created_revision t q) × ((due q ≡ false) × (apart q ≡ false)))
     same q h = (ap (option_map node_of) ((none q h).0 ∙ sym (none q h).1), λ both. absurd (none_some (none q h).0 both.0))
 
     scopes : (q : PathValue) → ((below p q && not (any_under xs q)) || any_under xs q) ≡ below p q
@@ -223,13 +223,13 @@ pub one_side : (o n : Option Entry) → is_some o ≡ true → is_some n ≡ fal
 one_side o n old new e = false≢true (sym new ∙ sym (node_some n) ∙ sym (ap is_some e) ∙ node_some o ∙ old)
 
 -- what goes differs, or stands in both trees and is apart
-pub goes_why : (apart : PathValue → Bool) (r t : Tree) (p : PathValue) → Goes apart r t p ≡ true → Differs r t p ⊎ (IsInBoth r t p × (apart p ≡ true))
-goes_why apart r t p g = by (is_some (t p)) refl (and_rest (is_some (r p)) (not (is_some (t p)) || apart p) g)
+pub goes_why : (changes : Bool) (apart : PathValue → Bool) (r t : Tree) (p : PathValue) → Goes apart r t p ≡ true → Differs changes r t p ⊎ (IsInBoth r t p × (apart p ≡ true))
+goes_why changes apart r t p g = by (is_some (t p)) refl (and_rest (is_some (r p)) (not (is_some (t p)) || apart p) g)
   where
     stood : is_some (r p) ≡ true
     stood = and_front (is_some (r p)) (not (is_some (t p)) || apart p) g
 
-    by : (b : Bool) → is_some (t p) ≡ b → (not (is_some (t p)) || apart p) ≡ true → Differs r t p ⊎ (IsInBoth r t p × (apart p ≡ true))
+    by : (b : Bool) → is_some (t p) ≡ b → (not (is_some (t p)) || apart p) ≡ true → Differs changes r t p ⊎ (IsInBoth r t p × (apart p ≡ true))
     by true e h = inr ((stood, e), sym (ap (λ b. not b || apart p) e) ∙ h)
     by false e h = inl (λ same. one_side (r p) (t p) stood e same.0)
 
@@ -250,10 +250,10 @@ holds_under : (u : Tree) (top p : PathValue) → is_at_or_under p top ≡ true �
 holds_under u top p at holds y q up low some = holds y q (under_more y p top up at) low some
 
 -- what goes from trees that hold together is a cut
-pub goes_cut : (apart : PathValue → Bool) (r t : Tree) (top p : PathValue) → is_at_or_under p top ≡ true → BothHold apart r t top → Goes apart r t p ≡ true → IsCut apart r t p
-goes_cut apart r t top p at sound g = record {
+pub goes_cut : (changes : Bool) (apart : PathValue → Bool) (r t : Tree) (top p : PathValue) → is_at_or_under p top ≡ true → BothHold apart r t top → Goes apart r t p ≡ true → IsCut changes apart r t p
+goes_cut changes apart r t top p at sound g = record {
   stood = and_front (is_some (r p)) (not (is_some (t p)) || apart p) g;
-  reason = goes_why apart r t p g;
+  reason = goes_why changes apart r t p g;
   lone = λ q u both. lone q u both (is_some (t p)) refl;
 }
   where
@@ -263,10 +263,10 @@ goes_cut apart r t top p at sound g = record {
     lone q u both false e = absurd (none_some (none_under t p q (holds_under t top p at sound.new_holds) e u) both.1)
 
 -- what is a cut stays one when another was taken out
-cut_without : (apart : PathValue → Bool) (r t : Tree) (d e : PathValue) → is_at_or_under e d ≡ false → IsCut apart r t e → IsCut apart (tree_without d r) t e
-cut_without apart r t d e out c = record {
+cut_without : (changes : Bool) (apart : PathValue → Bool) (r t : Tree) (d e : PathValue) → is_at_or_under e d ≡ false → IsCut changes apart r t e → IsCut changes apart (tree_without d r) t e
+cut_without changes apart r t d e out c = record {
   stood = subst IsSome (sym (kept r d e out)) c.stood;
-  reason = ⊎_elim (λ differs. inl (λ same. differs (sym (ap (option_map node_of) (kept r d e out)) ∙ same.0, sym (ap (option_map (λ (x : Entry). x.last)) (kept r d e out)) ∙ same.1)))
+  reason = ⊎_elim (λ differs. inl (λ same. differs (sym (ap (option_map node_of) (kept r d e out)) ∙ same.0, λ counted. sym (ap (option_map (λ (x : Entry). x.last)) (kept r d e out)) ∙ same.1 counted)))
       (λ a. inr ((subst IsSome (sym (kept r d e out)) a.0.0, a.0.1), a.1)) c.reason;
   lone = λ q u both. c.lone q u (there q (is_at_or_under q d) both.0, both.1);
 }
@@ -275,23 +275,23 @@ cut_without apart r t d e out c = record {
     there q true some = absurd (false≢true some)
     there q false some = some
 
-pub cuts : (seen : Node → Node) (scope due apart : PathValue → Bool) (t : Tree) (own : Own) (rest : List Visit) (ds : List PathValue) (r : Tree)
-    → ((e q : PathValue) → has ds e ≡ true → under e q ≡ true → scope q ≡ true) → AreDisjoint ds → ((e : PathValue) → has ds e ≡ true → IsCut apart r t e)
-    → IsRight seen scope due apart (without_all ds r) t (plan_steps own rest) → IsRight seen scope due apart r t (plan_steps own (map Delete ds ++ rest))
-cuts seen scope due apart t own rest [] r covers disjoint each right = right
-cuts seen scope due apart t own rest (d ∷ ds) r covers disjoint each right =
-    cut seen scope due apart r t d (plan_steps own (map Delete ds ++ rest)) (λ q u. covers d q (or_left (same_path d d) (has ds d) (same_path_refl d)) u) (each d (or_left (same_path d d) (has ds d) (same_path_refl d)))
-    (cuts seen scope due apart t own rest ds (tree_without d r) (λ e q h u. covers e q (or_right (same_path d e) (has ds e) h) u) disjoint.1
-    (λ e h. cut_without apart r t d e (false_or (is_at_or_under e d) (λ u. false≢true (sym (disjoint.0 e u) ∙ has_under ds e h))) (each e (or_right (same_path d e) (has ds e) h))) right)
+pub cuts : (counts : Counts) (scope due apart : PathValue → Bool) (t : Tree) (own : Own) (rest : List Visit) (ds : List PathValue) (r : Tree)
+    → ((e q : PathValue) → has ds e ≡ true → under e q ≡ true → scope q ≡ true) → AreDisjoint ds → ((e : PathValue) → has ds e ≡ true → IsCut counts.changes apart r t e)
+    → IsRight counts scope due apart (without_all ds r) t (plan_steps own rest) → IsRight counts scope due apart r t (plan_steps own (map Delete ds ++ rest))
+cuts counts scope due apart t own rest [] r covers disjoint each right = right
+cuts counts scope due apart t own rest (d ∷ ds) r covers disjoint each right =
+    cut counts scope due apart r t d (plan_steps own (map Delete ds ++ rest)) (λ q u. covers d q (or_left (same_path d d) (has ds d) (same_path_refl d)) u) (each d (or_left (same_path d d) (has ds d) (same_path_refl d)))
+    (cuts counts scope due apart t own rest ds (tree_without d r) (λ e q h u. covers e q (or_right (same_path d e) (has ds e) h) u) disjoint.1
+    (λ e h. cut_without counts.changes apart r t d e (false_or (is_at_or_under e d) (λ u. false≢true (sym (disjoint.0 e u) ∙ has_under ds e h))) (each e (or_right (same_path d e) (has ds e) h))) right)
 
 -- the deletes of what goes, before the visits of what is to be there
-pub with_cuts : (anew : Bool) (seen : Node → Node) (due apart : PathValue → Bool) (r t : Tree) (own : Own) (p : PathValue) (xs : List PathValue) (rest : List Visit)
+pub with_cuts : (anew : Bool) (counts : Counts) (due apart : PathValue → Bool) (r t : Tree) (own : Own) (p : PathValue) (xs : List PathValue) (rest : List Visit)
     → BothHold apart r t p → AreChildren p xs
-    → IsRight seen (below p) due apart (left_of anew apart r t xs) t (plan_steps own rest) → IsRight seen (below p) due apart (old_side anew r) t (plan_steps own (deletes_of anew apart r t xs ++ rest))
-with_cuts true seen due apart r t own p xs rest sound children right = right
-with_cuts false seen due apart r t own p xs rest sound children right =
-    cuts seen (below p) due apart t own rest (going apart r t xs) r (λ e q h u. child_below p q e (going_each apart r t p xs children.each e h).0 u) (going_disjoint apart r t xs children.disjoint)
-    (λ e h. goes_cut apart r t p e (below_under p e (child_below p e e (going_each apart r t p xs children.each e h).0 (under_itself e))) sound (going_each apart r t p xs children.each e h).1) right
+    → IsRight counts (below p) due apart (left_of anew apart r t xs) t (plan_steps own rest) → IsRight counts (below p) due apart (old_side anew r) t (plan_steps own (deletes_of anew apart r t xs ++ rest))
+with_cuts true counts due apart r t own p xs rest sound children right = right
+with_cuts false counts due apart r t own p xs rest sound children right =
+    cuts counts (below p) due apart t own rest (going apart r t xs) r (λ e q h u. child_below p q e (going_each apart r t p xs children.each e h).0 u) (going_disjoint apart r t xs children.disjoint)
+    (λ e h. goes_cut counts.changes apart r t p e (below_under p e (child_below p e e (going_each apart r t p xs children.each e h).0 (under_itself e))) sound (going_each apart r t p xs children.each e h).1) right
 
 pub left_all : (anew : Bool) (apart : PathValue → Bool) (r t : Tree) (p : PathValue) (xs : List PathValue) → AreAll r p xs → AreAll (left_of anew apart r t xs) p xs
 left_all true apart r t p xs all q low out = refl
@@ -303,21 +303,21 @@ left_all false apart r t p xs all q low out = without_all_at (going apart r t xs
 
 -- ---- the ends of the walk
 
-pub nothing_both : (seen : Node → Node) (due apart : PathValue → Bool) (s t : Tree) (p : PathValue) → ((q : PathValue) → is_at_or_under q p ≡ true → s q ≡ None) → ((q : PathValue) → is_at_or_under q p ≡ true → t q ≡ None)
-    → IsRight seen (under p) due apart s t []
-nothing_both seen due apart s t p old new =
-    nothing seen (under p) due apart s t (λ q h. (ap (option_map node_of) (old q h ∙ sym (new q h)), λ both. absurd (none_some (old q h) both.0)))
+pub nothing_both : (counts : Counts) (due apart : PathValue → Bool) (s t : Tree) (p : PathValue) → ((q : PathValue) → is_at_or_under q p ≡ true → s q ≡ None) → ((q : PathValue) → is_at_or_under q p ≡ true → t q ≡ None)
+    → IsRight counts (under p) due apart s t []
+nothing_both counts due apart s t p old new =
+    nothing counts (under p) due apart s t (λ q h. (ap (option_map node_of) (old q h ∙ sym (new q h)), λ both. absurd (none_some (old q h) both.0)))
 
-pub nothing_new : (seen : Node → Node) (due apart : PathValue → Bool) (anew : Bool) (r t : Tree) (p : PathValue) → is_some (t p) ≡ false → (anew ≡ false → is_some (r p) ≡ false) → BothHold apart r t p
-    → IsRight seen (under p) due apart (old_side anew r) t []
-nothing_new seen due apart true r t p none old sound = nothing_both seen due apart (λ _. None) t p (λ q u. refl) (λ q u. none_under t p q sound.new_holds none u)
-nothing_new seen due apart false r t p none old sound = nothing_both seen due apart r t p (λ q u. none_under r p q sound.old_holds (old refl) u) (λ q u. none_under t p q sound.new_holds none u)
+pub nothing_new : (counts : Counts) (due apart : PathValue → Bool) (anew : Bool) (r t : Tree) (p : PathValue) → is_some (t p) ≡ false → (anew ≡ false → is_some (r p) ≡ false) → BothHold apart r t p
+    → IsRight counts (under p) due apart (old_side anew r) t []
+nothing_new counts due apart true r t p none old sound = nothing_both counts due apart (λ _. None) t p (λ q u. refl) (λ q u. none_under t p q sound.new_holds none u)
+nothing_new counts due apart false r t p none old sound = nothing_both counts due apart r t p (λ q u. none_under r p q sound.old_holds (old refl) u) (λ q u. none_under t p q sound.new_holds none u)
 
 -- nothing is plan_steps where both trees are alike
-pub nothing_alike : (seen : Node → Node) (due apart : PathValue → Bool) (anew : Bool) (r t : Tree) (p : PathValue) → anew ≡ false → ((q : PathValue) → is_at_or_under q p ≡ true → (r q ≡ t q) × (due q ≡ false) × (IsInBoth r t q → apart q ≡ false)) → IsRight seen (under p) due apart (old_side anew r) t []
-nothing_alike seen due apart true r t p kept alike = absurd (false≢true (sym kept))
-nothing_alike seen due apart false r t p kept alike =
-    nothing seen (under p) due apart r t (λ q h. (ap (option_map node_of) (alike q h).0, λ both. (ap (option_map _) (alike q h).0, ((alike q h).1, (alike q h).2 both))))
+pub nothing_alike : (counts : Counts) (due apart : PathValue → Bool) (anew : Bool) (r t : Tree) (p : PathValue) → anew ≡ false → ((q : PathValue) → is_at_or_under q p ≡ true → (r q ≡ t q) × (due q ≡ false) × (IsInBoth r t q → apart q ≡ false)) → IsRight counts (under p) due apart (old_side anew r) t []
+nothing_alike counts due apart true r t p kept alike = absurd (false≢true (sym kept))
+nothing_alike counts due apart false r t p kept alike =
+    nothing counts (under p) due apart r t (λ q h. (ap (option_map node_of) (alike q h).0, λ both. (λ counted. ap (option_map _) (alike q h).0, ((alike q h).1, (alike q h).2 both))))
 
 pub child_sound : (apart : PathValue → Bool) (r t : Tree) (p x : PathValue) → IsChild p x → BothHold apart r t p → BothHold apart r t x
 child_sound apart r t p x child sound = record {
@@ -347,11 +347,11 @@ stays_together a (Some x) None h old new = absurd (false≢true new)
 stays_together a (Some x) (Some y) h old new = h
 
 -- a top that goes is deleted first
-pub top_cut : (seen : Node → Node) (due apart : PathValue → Bool) (r t : Tree) (own : Own) (p : PathValue) (rest : List Visit) → Goes apart r t p ≡ true → BothHold apart r t p
-    → IsRight seen (under p) due apart (old_side true r) t (plan_steps own rest) → IsRight seen (under p) due apart r t (plan_steps own (Delete p ∷ rest))
-top_cut seen due apart r t own p rest g sound right =
-    cut seen (under p) due apart r t p (plan_steps own rest) (λ q u. u) (goes_cut apart r t p p (under_itself p) sound g)
-    (reseated seen (under p) due apart (λ _. None) (tree_without p r) t (plan_steps own rest) (λ q w h u. under_more w q p u h) (λ q h. sym (left_out r p q h)) right)
+pub top_cut : (counts : Counts) (due apart : PathValue → Bool) (r t : Tree) (own : Own) (p : PathValue) (rest : List Visit) → Goes apart r t p ≡ true → BothHold apart r t p
+    → IsRight counts (under p) due apart (old_side true r) t (plan_steps own rest) → IsRight counts (under p) due apart r t (plan_steps own (Delete p ∷ rest))
+top_cut counts due apart r t own p rest g sound right =
+    cut counts (under p) due apart r t p (plan_steps own rest) (λ q u. u) (goes_cut counts.changes apart r t p p (under_itself p) sound g)
+    (reseated counts (under p) due apart (λ _. None) (tree_without p r) t (plan_steps own rest) (λ q w h u. under_more w q p u h) (λ q h. sym (left_out r p q h)) right)
 
 -- a close says no step
 pub entry_steps : (own : Own) (dir : Bool) (v : Visit) (rest : List Visit) → plan_steps own (v ∷ rest) ≡ plan_steps own (entry_visits dir v rest)
@@ -391,10 +391,10 @@ no_directory apart r t p sound stays some file = by (is_some (r p)) refl
     by false old = none (r p) old
 
 -- nothing is below a file
-pub nothing_below : (seen : Node → Node) (due apart : PathValue → Bool) (anew : Bool) (r t : Tree) (p : PathValue) → is_some (t p) ≡ true → is_directory_there (t p) ≡ false → (anew ≡ false → Goes apart r t p ≡ false) → BothHold apart r t p
-    → IsRight seen (below p) due apart (old_side anew r) t []
-nothing_below seen due apart anew r t p some file stays sound =
-    nothing seen (below p) due apart (old_side anew r) t (λ q low. (ap (option_map node_of) (old q low anew refl ∙ sym (new q low)), λ both. absurd (none_some (new q low) both.1)))
+pub nothing_below : (counts : Counts) (due apart : PathValue → Bool) (anew : Bool) (r t : Tree) (p : PathValue) → is_some (t p) ≡ true → is_directory_there (t p) ≡ false → (anew ≡ false → Goes apart r t p ≡ false) → BothHold apart r t p
+    → IsRight counts (below p) due apart (old_side anew r) t []
+nothing_below counts due apart anew r t p some file stays sound =
+    nothing counts (below p) due apart (old_side anew r) t (λ q low. (ap (option_map node_of) (old q low anew refl ∙ sym (new q low)), λ both. absurd (none_some (new q low) both.1)))
   where
     new : (q : PathValue) → below p q ≡ true → t q ≡ None
     new q low = none_below t p q sound.new_holds file low
@@ -415,19 +415,19 @@ old_left false apart r t p q sound u = by (is_some (r p)) (Goes apart r t p) ref
     by false true e = refl
     by false false e = sym (none_under r p q sound.old_holds e u)
 
-pub added_entry : (seen : Node → Node) (due apart : PathValue → Bool) (anew : Bool) (r t : Tree) (p : PathValue) (cs : List Step) → BothHold apart r t p
-    → IsRight seen (under p) due apart (old_side (anew || (not (is_some (r p)) || Goes apart r t p)) r) t cs → IsRight seen (under p) due apart (old_side (anew || Goes apart r t p) r) t cs
-added_entry seen due apart anew r t p cs sound right =
-    reseated seen (under p) due apart (old_side (anew || (not (is_some (r p)) || Goes apart r t p)) r) (old_side (anew || Goes apart r t p) r) t cs (λ q w h u. under_more w q p u h) (λ q h. old_left anew apart r t p q sound h) right
+pub added_entry : (counts : Counts) (due apart : PathValue → Bool) (anew : Bool) (r t : Tree) (p : PathValue) (cs : List Step) → BothHold apart r t p
+    → IsRight counts (under p) due apart (old_side (anew || (not (is_some (r p)) || Goes apart r t p)) r) t cs → IsRight counts (under p) due apart (old_side (anew || Goes apart r t p) r) t cs
+added_entry counts due apart anew r t p cs sound right =
+    reseated counts (under p) due apart (old_side (anew || (not (is_some (r p)) || Goes apart r t p)) r) (old_side (anew || Goes apart r t p) r) t cs (λ q w h u. under_more w q p u h) (λ q h. old_left anew apart r t p q sound h) right
 
 pub not_false : (b : Bool) → not b ≡ false → b ≡ true
 not_false true h = refl
 not_false false h = absurd (false≢true (sym h))
 
 -- nor does it change what is right
-pub with_close : (seen : Node → Node) (scope due apart : PathValue → Bool) (r t : Tree) (own : Own) (dir : Bool) (v : Visit) (rest : List Visit)
-    → IsRight seen scope due apart r t (plan_steps own (v ∷ rest)) → IsRight seen scope due apart r t (plan_steps own (entry_visits dir v rest))
-with_close seen scope due apart r t own dir v rest right = subst (λ (cs : List Step). IsRight seen scope due apart r t cs) (entry_steps own dir v rest) right
+pub with_close : (counts : Counts) (scope due apart : PathValue → Bool) (r t : Tree) (own : Own) (dir : Bool) (v : Visit) (rest : List Visit)
+    → IsRight counts scope due apart r t (plan_steps own (v ∷ rest)) → IsRight counts scope due apart r t (plan_steps own (entry_visits dir v rest))
+with_close counts scope due apart r t own dir v rest right = subst (λ (cs : List Step). IsRight counts scope due apart r t cs) (entry_steps own dir v rest) right
 
 -- ---- the root
 
@@ -455,11 +455,11 @@ directory_in_both r t p old new = by (r p) (t p) old new
     by (Some x) (Some y) h k = h ∙ sym k
 
 -- the root is opened, whatever is below it
-pub root_opened : (seen : Node → Node) (due apart : PathValue → Bool) (r t : Tree) (own : Own) (rest : List Visit) → HasDirectory r [] → HasDirectory t [] → apart [] ≡ false → LeadsOver seen r t own
-    → IsRight seen (below []) due apart r t (plan_steps own rest) → IsRight seen (under []) due apart r t (plan_steps own (Open [] true ∷ rest))
-root_opened seen due apart r t own rest old new stays leads right =
-    subst (λ b. IsRight seen (under []) due apart r t (plan_steps own (Open [] b ∷ rest))) (directory_there t [] new)
-    (entry_opened seen due apart r t own [] rest stays (directory_in_both r t [] old new) leads (inl refl) right)
+pub root_opened : (counts : Counts) (due apart : PathValue → Bool) (r t : Tree) (own : Own) (rest : List Visit) → HasDirectory r [] → HasDirectory t [] → apart [] ≡ false → LeadsOver counts.seen r t own
+    → IsRight counts (below []) due apart r t (plan_steps own rest) → IsRight counts (under []) due apart r t (plan_steps own (Open [] true ∷ rest))
+root_opened counts due apart r t own rest old new stays leads right =
+    subst (λ b. IsRight counts (under []) due apart r t (plan_steps own (Open [] b ∷ rest))) (directory_there t [] new)
+    (entry_opened counts due apart r t own [] rest stays (directory_in_both r t [] old new) leads (inl refl) right)
 
 -- what follows from two facts of an answer holds of it
 pub ok_both : {T E : Type 0} (r : Result T E) (P Q R : T → Type 0) → ((v : T) → P v → Q v → R v) → IfOk r P → IfOk r Q → IfOk r R

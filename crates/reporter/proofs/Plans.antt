@@ -18,7 +18,7 @@ abbrev pub comes : WalkedTrees → Bool → PathValue → Bool
 comes t anew p = anew || (not (is_some (t.old p)) || goes_at t p)
 
 abbrev pub Leads : WalkedTrees → Type 0
-Leads t = LeadsOver t.seen t.old t.new t.own
+Leads t = LeadsOver t.counts.seen t.old t.new t.own
 
 -- what does not come stood there, and stays
 pub staying : (t : WalkedTrees) (anew : Bool) (p : PathValue) → comes t anew p ≡ false → (anew ≡ false) × (is_some (t.old p) ≡ true) × (goes_at t p ≡ false)
@@ -36,7 +36,7 @@ left_side t anew p kept = let s = staying t anew p kept in sym (ap (λ b. b || g
 pub absent : (t : WalkedTrees) (anew : Bool) (p : PathValue) → is_some (t.new p) ≡ false → IsPlanOf t anew p []
 absent t anew p none = record {
   right = λ sound.
-      nothing_new t.seen t.due t.apart (anew || goes_at t p) t.old t.new p none (λ kept. stays_gone (t.apart p) (t.old p) (t.new p) (or_false anew (goes_at t p) kept).1 none) sound;
+      nothing_new t.counts t.due t.apart (anew || goes_at t p) t.old t.new p none (λ kept. stays_gone (t.apart p) (t.old p) (t.new p) (or_false anew (goes_at t p) kept).1 none) sound;
   nests = λ top d inside. nested_nothing t.new top d;
 }
 
@@ -44,7 +44,7 @@ absent t anew p none = record {
 pub alike : (t : WalkedTrees) (p : PathValue) → goes_at t p ≡ false → AreAlike t p → IsPlanOf t false p []
 alike t p stays same = record {
   right = λ sound.
-      subst (λ b. IsRightPlan t.seen (under p) t.due t.apart (old_side b t.old) t.new t.own []) (sym stays) (nothing_alike t.seen t.due t.apart false t.old t.new p refl same);
+      subst (λ b. IsRightPlan t.counts (under p) t.due t.apart (old_side b t.old) t.new t.own []) (sym stays) (nothing_alike t.counts t.due t.apart false t.old t.new p refl same);
   nests = λ top d inside. nested_nothing t.new top d;
 }
 
@@ -52,8 +52,8 @@ alike t p stays same = record {
 pub same : (t : WalkedTrees) (p : PathValue) → goes_at t p ≡ false → IsSame t p → IsPlanBelow t false p [] → IsPlanOf t false p []
 same t p stays is plan = record {
   right = λ sound.
-      subst (λ b. IsRightPlan t.seen (under p) t.due t.apart (old_side b t.old) t.new t.own []) (sym stays)
-      (entry_same t.seen t.due t.apart t.old t.new t.own p false [] refl refl is.node is.created is.quiet (λ both. stays_together (t.apart p) (t.old p) (t.new p) stays both.0 both.1) (plan.right sound));
+      subst (λ b. IsRightPlan t.counts (under p) t.due t.apart (old_side b t.old) t.new t.own []) (sym stays)
+      (entry_same t.counts t.due t.apart t.old t.new t.own p false [] refl refl is.node is.created is.quiet (λ both. stays_together (t.apart p) (t.old p) (t.new p) stays both.0 both.1) (plan.right sound));
   nests = λ top d inside. nested_nothing t.new top d;
 }
 
@@ -61,11 +61,11 @@ pub added : (t : WalkedTrees) (anew dir : Bool) (p : PathValue) (rest : List Vis
     → IsPlanBelow t true p rest → IsPlanOf t anew p (entry_visits dir (Add p dir) rest)
 added t anew dir p rest leads new stands kind file plan = record {
   right = λ sound.
-      added_entry t.seen t.due t.apart anew t.old t.new p (plan_steps t.own (entry_visits dir (Add p dir) rest)) sound
-      (subst (λ b. IsRightPlan t.seen (under p) t.due t.apart (old_side b t.old) t.new t.own (entry_visits dir (Add p dir) rest)) (sym new)
-      (with_close t.seen (under p) t.due t.apart (old_side true t.old) t.new t.own dir (Add p dir) rest
-      (subst (λ b. IsRight t.seen (under p) t.due t.apart (old_side true t.old) t.new (plan_steps t.own (Add p b ∷ rest))) (sym kind)
-      (entry_anew t.seen t.due t.apart t.old t.new t.own p true rest refl stands leads (plan.right sound)))));
+      added_entry t.counts t.due t.apart anew t.old t.new p (plan_steps t.own (entry_visits dir (Add p dir) rest)) sound
+      (subst (λ b. IsRightPlan t.counts (under p) t.due t.apart (old_side b t.old) t.new t.own (entry_visits dir (Add p dir) rest)) (sym new)
+      (with_close t.counts (under p) t.due t.apart (old_side true t.old) t.new t.own dir (Add p dir) rest
+      (subst (λ b. IsRight t.counts (under p) t.due t.apart (old_side true t.old) t.new (plan_steps t.own (Add p b ∷ rest))) (sym kind)
+      (entry_anew t.counts t.due t.apart t.old t.new t.own p true rest refl stands leads (plan.right sound)))));
   nests = λ top d inside. nested_entry t.new top d p (Add p dir) dir rest (λ ds. refl) kind file inside stands (plan.nests top);
 }
 
@@ -73,10 +73,10 @@ pub opened : (t : WalkedTrees) (anew dir : Bool) (p : PathValue) (rest : List Vi
     → (BothHold t.apart t.old t.new p → HasReasonAt t p) → IsPlanBelow t false p rest → IsPlanOf t anew p (entry_visits dir (Open p dir) rest)
 opened t anew dir p rest leads kept stands kind file reason plan = record {
   right = λ sound.
-      subst (λ b. IsRightPlan t.seen (under p) t.due t.apart (old_side b t.old) t.new t.own (entry_visits dir (Open p dir) rest)) (left_side t anew p kept)
-      (with_close t.seen (under p) t.due t.apart t.old t.new t.own dir (Open p dir) rest
-      (subst (λ b. IsRight t.seen (under p) t.due t.apart t.old t.new (plan_steps t.own (Open p b ∷ rest))) (sym kind)
-      (entry_opened t.seen t.due t.apart t.old t.new t.own p rest together (sound.of_one_kind p (under_itself p) (stay.1, stands) together) leads (reason sound) (plan.right sound))));
+      subst (λ b. IsRightPlan t.counts (under p) t.due t.apart (old_side b t.old) t.new t.own (entry_visits dir (Open p dir) rest)) (left_side t anew p kept)
+      (with_close t.counts (under p) t.due t.apart t.old t.new t.own dir (Open p dir) rest
+      (subst (λ b. IsRight t.counts (under p) t.due t.apart t.old t.new (plan_steps t.own (Open p b ∷ rest))) (sym kind)
+      (entry_opened t.counts t.due t.apart t.old t.new t.own p rest together (sound.of_one_kind p (under_itself p) (stay.1, stands) together) leads (reason sound) (plan.right sound))));
   nests = λ top d inside. nested_entry t.new top d p (Open p dir) dir rest (λ ds. refl) kind file inside stands (plan.nests top);
 }
   where
@@ -98,7 +98,7 @@ entry_plan t anew dir p vs leads stands kind reason e = subst (IsPlanOf t anew p
 -- nothing is below a file
 pub below_file : (t : WalkedTrees) (anew : Bool) (p : PathValue) → is_some (t.new p) ≡ true → is_directory_there (t.new p) ≡ false → (anew ≡ false → goes_at t p ≡ false) → IsPlanBelow t anew p []
 below_file t anew p stands file stays = record {
-  right = λ sound. nothing_below t.seen t.due t.apart anew t.old t.new p stands file stays sound;
+  right = λ sound. nothing_below t.counts t.due t.apart anew t.old t.new p stands file stays sound;
   nests = λ top. nested_nothing t.new top p;
 }
 
@@ -123,23 +123,23 @@ IsLedFrom t anew s y = (q : PathValue) → is_at_or_under q y ≡ true → old_s
 
 -- a drive of one entry, and then one of others
 entry_joined : (t : WalkedTrees) (s : Tree) (x : PathValue) (xs : List PathValue) (now later : List Step) → ((q : PathValue) → is_at_or_under q x ≡ true → any_under xs q ≡ false)
-    → IsRight t.seen (under x) t.due t.apart s t.new now → IsRight t.seen (any_under xs) t.due t.apart s t.new later → IsRight t.seen (any_under (x ∷ xs)) t.due t.apart s t.new (now ++ later)
+    → IsRight t.counts (under x) t.due t.apart s t.new now → IsRight t.counts (any_under xs) t.due t.apart s t.new later → IsRight t.counts (any_under (x ∷ xs)) t.due t.apart s t.new (now ++ later)
 entry_joined t s x xs now later disjoint one others =
     rescoped (λ q. refl)
-    (joined t.seen (under x) (any_under xs) t.due t.apart s t.new now later disjoint
+    (joined t.counts (under x) (any_under xs) t.due t.apart s t.new now later disjoint
     (λ q h. reach_named now q (λ y named. false_or (is_at_or_under q y) (λ u. false≢true (sym (disjoint q (under_more q y x u (one.within y named))) ∙ h))))
     (λ q h. reach_named later q (λ y named. false_or (is_at_or_under q y) (λ u. false≢true (sym (disjoint q h) ∙ any_more xs q y (others.within y named) u))))
     one others)
 
 plans_right : (t : WalkedTrees) (anew : Bool) (p : PathValue) (s : Tree) (xs : List PathValue) (vs : List Visit) → BothHold t.apart t.old t.new p → All (IsChild p) xs → AreDisjoint xs → All (IsLedFrom t anew s) xs → ArePlansOf t anew xs vs
-    → IsRight t.seen (any_under xs) t.due t.apart s t.new (plan_steps t.own vs)
+    → IsRight t.counts (any_under xs) t.due t.apart s t.new (plan_steps t.own vs)
 plans_right t anew p s [] vs sound each disjoint led plans =
-    subst (λ (ws : List Visit). IsRight t.seen (any_under []) t.due t.apart s t.new (plan_steps t.own ws)) (sym plans)
-    (nothing t.seen (any_under []) t.due t.apart s t.new (λ q h. absurd (false≢true h)))
+    subst (λ (ws : List Visit). IsRight t.counts (any_under []) t.due t.apart s t.new (plan_steps t.own ws)) (sym plans)
+    (nothing t.counts (any_under []) t.due t.apart s t.new (λ q h. absurd (false≢true h)))
 plans_right t anew p s (x ∷ xs) vs sound each disjoint led (now, later, is, plan, rest) =
-    subst (λ (cs : List Step). IsRight t.seen (any_under (x ∷ xs)) t.due t.apart s t.new cs) (sym (ap (plan_steps t.own) is ∙ plan_steps_append t.own now later))
+    subst (λ (cs : List Step). IsRight t.counts (any_under (x ∷ xs)) t.due t.apart s t.new cs) (sym (ap (plan_steps t.own) is ∙ plan_steps_append t.own now later))
     (entry_joined t s x xs (plan_steps t.own now) (plan_steps t.own later) disjoint.0
-    (reseated t.seen (under x) t.due t.apart (old_side (anew || goes_at t x) t.old) s t.new (plan_steps t.own now) (λ q w h u. under_more w q x u h) (All-head (IsLedFrom t anew s) x xs led)
+    (reseated t.counts (under x) t.due t.apart (old_side (anew || goes_at t x) t.old) s t.new (plan_steps t.own now) (λ q w h u. under_more w q x u h) (All-head (IsLedFrom t anew s) x xs led)
     (plan.right (child_sound t.apart t.old t.new p x (All-head (IsChild p) x xs each) sound)))
     (plans_right t anew p s xs later sound (All-tail (IsChild p) x xs each) disjoint.1 (All-tail (IsLedFrom t anew s) x xs led) rest))
 
@@ -153,8 +153,8 @@ pub below_directory : (t : WalkedTrees) (anew : Bool) (p : PathValue) (xs : List
     → IsPlanBelow t anew p (deletes_of anew t.apart t.old t.new xs ++ vs)
 below_directory t anew p xs vs listed plans = record {
   right = λ sound.
-      with_cuts anew t.seen t.due t.apart t.old t.new t.own p xs vs sound listed.children
-      (all_children t.seen t.due t.apart (left_of anew t.apart t.old t.new xs) t.new p xs (plan_steps t.own vs) listed.children (left_all anew t.apart t.old t.new p xs (listed.all_old sound.old_holds)) (listed.all_new sound.new_holds)
+      with_cuts anew t.counts t.due t.apart t.old t.new t.own p xs vs sound listed.children
+      (all_children t.counts t.due t.apart (left_of anew t.apart t.old t.new xs) t.new p xs (plan_steps t.own vs) listed.children (left_all anew t.apart t.old t.new p xs (listed.all_old sound.old_holds)) (listed.all_new sound.new_holds)
       (plans_right t anew p (left_of anew t.apart t.old t.new xs) xs vs sound listed.children.each listed.children.disjoint
       (λ i d lt. left_under anew t.apart t.old t.new p (get_or xs i d) xs i listed.children lt (one_place xs i d (get_or xs i d) lt) (listed.children.each i d lt)) plans));
   nests = λ top. nested_append t.new top p (deletes_of anew t.apart t.old t.new xs) vs (nested_deletes anew t.apart t.old t.new top p xs listed.children.each) (plans_nested t anew top p xs vs listed.children.each plans);

@@ -16,7 +16,7 @@ due_reason t p due = inr (p, under_itself p, ⊎_elim inl (λ d. inr (inl d)) du
 
 -- so has what goes
 pub going_reason : (t : WalkedTrees) (p : PathValue) → goes_at t p ≡ true → HasReasonAt t p
-going_reason t p g = inr (p, under_itself p, ⊎_elim inl (λ a. inr (inr a)) (goes_why t.apart t.old t.new p g))
+going_reason t p g = inr (p, under_itself p, ⊎_elim inl (λ a. inr (inr a)) (goes_why t.counts.changes t.apart t.old t.new p g))
 
 -- so has what comes
 pub coming_reason : (t : WalkedTrees) (p : PathValue) → is_some (t.new p) ≡ true → (not (is_some (t.old p)) || goes_at t p) ≡ true → HasReasonAt t p

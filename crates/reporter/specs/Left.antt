@@ -13,7 +13,7 @@ use Rattle.reporter.specs.{declared.unvisited.Unvisited.Unvisited, Visits.Visit,
 -- entry or its directory comes anew.
 pub record IsPlanOf (t : WalkedTrees) (anew : Bool) (p : PathValue) (vs : List Visit) : Type 0 where
   pub right : BothHold t.apart t.old t.new p
-      → IsRightPlan t.seen (under p) t.due t.apart (old_side (anew || goes_at t p) t.old)
+      → IsRightPlan t.counts (under p) t.due t.apart (old_side (anew || goes_at t p) t.old)
       t.new t.own vs
   pub nests : (top d : PathValue) → is_in_directory top d p ≡ true → AreNested t.new top d vs
 
@@ -21,7 +21,7 @@ pub record IsPlanOf (t : WalkedTrees) (anew : Bool) (p : PathValue) (vs : List V
 pub record IsPlanBelow (t : WalkedTrees) (anew : Bool) (p : PathValue) (vs : List Visit)
     : Type 0 where
   pub right : BothHold t.apart t.old t.new p
-      → IsRightPlan t.seen (below p) t.due t.apart (old_side anew t.old) t.new t.own vs
+      → IsRightPlan t.counts (below p) t.due t.apart (old_side anew t.old) t.new t.own vs
   pub nests : (top : PathValue) → AreNested t.new top p vs
 
 -- an entry is entered, and then come the visits below it, which are none below a file
@@ -39,13 +39,13 @@ IsSilent t p = (goes_at t p ≡ false) × IsPlanOf t false p []
 -- these visits below the root, which is opened before, are a right drive and have their places
 pub record IsRootPlan (t : WalkedTrees) (vs : List Visit) : Type 0 where
   pub right : BothHold t.apart t.old t.new []
-      → IsRightPlan t.seen (under []) t.due t.apart t.old t.new t.own (Open [] true ∷ vs)
+      → IsRightPlan t.counts (under []) t.due t.apart t.old t.new t.own (Open [] true ∷ vs)
   pub nests : AreNested t.new [] [] vs
 
 -- so are these, from a top on
 pub record IsTopPlan (t : WalkedTrees) (top : PathValue) (vs : List Visit) : Type 0 where
   pub right : BothHold t.apart t.old t.new top
-      → IsRightPlan t.seen (under top) t.due t.apart t.old t.new t.own vs
+      → IsRightPlan t.counts (under top) t.due t.apart t.old t.new t.own vs
   pub nests : (d : PathValue) → is_in_directory top d top ≡ true → AreNested t.new top d vs
 
 -- visits of each of the paths, one after the other

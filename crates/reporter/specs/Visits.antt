@@ -2,7 +2,7 @@
 use Rattle.std.specs.Prelude.{Bool, true, false, List, [], ◌∷◌, ◌++◌, Option}
 use Rattle.svnpath.specs.Paths.{PathValue}
 use Rattle.repo_api.specs.{Trees.{is_directory_there, Tree}, declared.entry.Entry.Entry}
-use Rattle.drive_rules.specs.{Drives.IsRight, Steps.{EntryKind, Node, Step}, Steps.EntryKind.{DirectoryKind, FileKind}, Steps.Step.{AddAt, DeleteAt, OpenAt}}
+use Rattle.drive_rules.specs.{Drives.{Counts, IsRight}, Steps.{EntryKind, Step}, Steps.EntryKind.{DirectoryKind, FileKind}, Steps.Step.{AddAt, DeleteAt, OpenAt}}
 
 -- What a drive does at a path: an entry is opened or added, as a directory or else a file, or it is
 -- deleted; or the innermost directory that is open is closed.
@@ -38,7 +38,7 @@ plan_steps own [] = []
 plan_steps own (v ∷ vs) = visit_steps own v ++ plan_steps own vs
 
 -- the steps of these visits are a right drive
-abbrev pub IsRightPlan : (Node → Node) → (PathValue → Bool) → (PathValue → Bool)
+abbrev pub IsRightPlan : Counts → (PathValue → Bool) → (PathValue → Bool)
     → (PathValue → Bool) → Tree → Tree → OwnSteps → List Visit → Type 0
-IsRightPlan seen scope due apart old new own visits =
-    IsRight seen scope due apart old new (plan_steps own visits)
+IsRightPlan counts scope due apart old new own visits =
+    IsRight counts scope due apart old new (plan_steps own visits)

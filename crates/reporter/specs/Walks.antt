@@ -1,22 +1,22 @@
 -- What a walk over two trees needs to know of them.
-use Rattle.std.specs.Prelude.{◌≡◌, ◌<◌, ◌&&◌, ◌||◌, ℕ, Bool, true, false, not, is_some, List, [], ◌∷◌, ◌++◌, Option, Some, None, IsSome, ◌⊎◌, length, All}
+use Rattle.std.specs.Prelude.{◌≡◌, ◌<◌, ◌&&◌, ◌||◌, ℕ, Bool, true, false, not, is_some, List, [], ◌∷◌, ◌++◌, Option, Some, None, IsSome, IsTrue, ◌⊎◌, length, All}
 use Rattle.std.specs.{Prelude.{option_map, filter, map}, List.list_any}
 use Rattle.svnpath.specs.Paths.{Component, is_at_or_under, PathValue}
 use Rattle.repo_api.specs.{Kinds.kind_of, Trees.{HasFile, is_directory_there, Tree}, declared.entry.Entry.Entry}
-use Rattle.drive_rules.specs.{Drives.{content_at, created_revision, Differs, HasReason, IsInBoth, IsOfOneKind}, Scopes.{below, HoldsTogether, tree_without}}
+use Rattle.drive_rules.specs.{Drives.{content_at, Counts, created_revision, Differs, HasReason, IsInBoth, IsOfOneKind}, Scopes.{below, HoldsTogether, tree_without}}
 use Rattle.drive_rules.specs.Steps.{after_steps, all_meet, empty_content, has_step, is_text, IsOwn, no_properties, Node, node_at}
 use Rattle.reporter.specs.{declared.kinds.Kinds.Kinds, Visits.{OwnSteps, Visit, entry_kind}, Visits.Visit.Delete}
 
 -- ---- both trees
 
 -- Two trees side by side: what the client has, and what it is to have; which entries are due, and
--- which are apart; what is seen of an entry; and what an entry is told.
+-- which are apart; what counts of an entry; and what an entry is told.
 pub record WalkedTrees : Type 0 where
   pub old : Tree
   pub new : Tree
   pub due : PathValue → Bool
   pub apart : PathValue → Bool
-  pub seen : Node → Node
+  pub counts : Counts
   pub own : OwnSteps
 
 -- what stands at a path on both sides, and whether it is apart
@@ -106,10 +106,10 @@ pub record BothHold (apart : PathValue → Bool) (old new : Tree) (p : PathValue
   pub all_apart : (q x : PathValue) → is_at_or_under q p ≡ true → apart q ≡ true
       → is_at_or_under x q ≡ true → IsInBoth old new x → apart x ≡ true
 
--- nothing has changed at the path itself
+-- nothing that counts has changed at the path itself
 pub record IsSame (t : WalkedTrees) (p : PathValue) : Type 0 where
   pub node : node_at t.old p ≡ node_at t.new p
-  pub created : created_revision t.old p ≡ created_revision t.new p
+  pub created : IsTrue t.counts.changes → created_revision t.old p ≡ created_revision t.new p
   pub quiet : t.due p ≡ false
 
 -- at the path and under it both trees have the same, and nothing is due or apart
@@ -141,11 +141,11 @@ IsSamePair t p q =
 
 -- something is to be said of the entry itself: it differs, or is due
 abbrev pub IsDue : WalkedTrees → PathValue → Type 0
-IsDue t p = Differs t.old t.new p ⊎ (t.due p ≡ true)
+IsDue t p = Differs t.counts.changes t.old t.new p ⊎ (t.due p ≡ true)
 
 -- the path may be named
 abbrev pub HasReasonAt : WalkedTrees → PathValue → Type 0
-HasReasonAt t p = HasReason t.due t.apart t.old t.new p
+HasReasonAt t p = HasReason t.counts.changes t.due t.apart t.old t.new p
 
 -- an entry is to stand there as a directory or a file, and stays unless it comes anew
 pub record MayEnter (t : WalkedTrees) (anew directory : Bool) (p : PathValue) : Type 0 where
@@ -155,9 +155,10 @@ pub record MayEnter (t : WalkedTrees) (anew directory : Bool) (p : PathValue) : 
 
 -- the path is named: it is the root, or something below it is, or something is to be said of the
 -- entry itself
-abbrev pub IsNeeded : {X : Type 0} → List X → Tree → Tree → (PathValue → Bool) → PathValue → Type 0
-IsNeeded rest old new due p =
-    (p ≡ []) ⊎ ((rest ≡ [] → ⊥) ⊎ (Differs old new p ⊎ (due p ≡ true)))
+abbrev pub IsNeeded : {X : Type 0} → Bool → List X → Tree → Tree → (PathValue → Bool) → PathValue
+    → Type 0
+IsNeeded changes rest old new due p =
+    (p ≡ []) ⊎ ((rest ≡ [] → ⊥) ⊎ (Differs changes old new p ⊎ (due p ≡ true)))
 
 -- ---- an entry's own steps
 

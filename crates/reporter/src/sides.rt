@@ -29,7 +29,7 @@ pub trait Sides {
     ghost ends: { (s : Self) → IsShorter (trees s).new (bound s) };
 
     /// What an entry is told leads from what it was to what it is to be.
-    ghost leads: { (s : Self) → LeadsOver (trees s).seen (trees s).old (trees s).new (trees s).own };
+    ghost leads: { (s : Self) → LeadsOver (trees s).counts.seen (trees s).old (trees s).new (trees s).own };
 
     /// Gives the path that a walk begins at, with what is known of it.
     fn top(&self, alloc: Global) -> Result<KnownPath<Self::Known>, AllocError>

@@ -3,7 +3,7 @@ ghost use Rattle.std.specs.Prelude.{◌≡◌, ℕ, Bool, List, [], option_copie
 ghost use Rattle.svnpath.specs.Paths.{PathValue};
 ghost use Rattle.repo_api.specs.States.{RepoState};
 ghost use Rattle.drive_reports.specs.Refusing.{ReportState, ask_of, begun_report};
-ghost use Rattle.machine.specs.{Answers.{behind, says}, Commands.drive_ask, Steps.{Answered, Looks}};
+ghost use Rattle.machine.specs.{Answers.{behind, says}, Commands.{diff_purpose, drive_ask}, Steps.{Answered, Looks}};
 ghost use Rattle.wire_replies.specs.Made.{Makes};
 ghost use Rattle.session_replies.specs.Telling.{told_before};
 
@@ -16,6 +16,17 @@ use session_replies::{Preface, SessionPhase, say_preface, stands};
 use std::alloc::{AllocError, Global};
 use std::mem::drop;
 use wire_replies::ReplySink;
+
+/// Gives the purpose of a diff, with texts or without.
+fn diff_purpose(sends_texts: bool) -> Purpose
+    ensures { result ≡ diff_purpose sends_texts }
+{
+    if sends_texts {
+        Purpose::Diff
+    } else {
+        Purpose::Summary
+    }
+}
 
 /// Says what a command asks a report for.
 fn errand_of(command: &DriveCommand) -> Errand<'_>
@@ -38,6 +49,11 @@ fn errand_of(command: &DriveCommand) -> Errand<'_>
             purpose: Purpose::Status,
             request,
             url: None,
+        },
+        DriveCommand::Diff(request) => Errand {
+            purpose: diff_purpose(request.sends_texts),
+            request: &request.drive,
+            url: Some(&request.url),
         },
     }
 }

@@ -3,3 +3,4 @@ pub mod Joined
 pub mod Each
 pub mod Listed
 pub mod Told
+pub mod InTurn

@@ -1,5 +1,5 @@
 //! What clients of either kind ask for.
-use commands::{GetLocationSegmentsCommand, GetLocationsCommand, LogCommand};
+use commands::{GetFileRevsCommand, GetLocationSegmentsCommand, GetLocationsCommand, LogCommand};
 use history::Place;
 
 /// A place that is asked for, and whether it is by a client of today.
@@ -27,5 +27,12 @@ pub(crate) struct LocationsAsked<'a> {
 #[derive(Clone, Copy)]
 pub(crate) struct SegmentsAsked<'a> {
     pub(crate) command: &'a GetLocationSegmentsCommand,
+    pub(crate) is_of_today: bool,
+}
+
+/// Revisions of a file that are asked for, and whether they are by a client of today.
+#[derive(Clone, Copy)]
+pub(crate) struct FileRevisionsAsked<'a> {
+    pub(crate) command: &'a GetFileRevsCommand,
     pub(crate) is_of_today: bool,
 }

@@ -132,7 +132,7 @@ fn say_told<S: ReplySink>(
 }
 
 /// Says why there is no file: nothing exists there, or a directory.
-fn no_file(kind: NodeKind) -> Refusal
+pub(crate) fn no_file(kind: NodeKind) -> Refusal
     ensures { result ≡ no_file kind }
 {
     match kind {

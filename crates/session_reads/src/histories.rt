@@ -3,7 +3,7 @@ ghost use Rattle.machine.specs.Commands.{history_replies};
 ghost use Rattle.wire_replies.specs.Sinks.{Says};
 
 use crate::deleted::get_deleted_rev;
-use crate::segments;
+use crate::{file_revisions, segments};
 use commands::HistoryCommand;
 use machine::Client;
 use repo_api::Repository;
@@ -27,6 +27,9 @@ pub(crate) fn say_history<R: Repository, S: ReplySink>(
         }
         HistoryCommand::GetDeletedRev(command) => {
             say_made(get_deleted_rev(alloc, view, &client.path, command), out)
+        }
+        HistoryCommand::GetFileRevs(command) => {
+            file_revisions::say_named(alloc, view, client, command, out)
         }
     }
 }

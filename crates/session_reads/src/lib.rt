@@ -6,6 +6,7 @@ mod asked;
 mod deleted;
 mod directories;
 mod entries;
+mod file_revisions;
 mod files;
 mod histories;
 mod listing;

@@ -13,11 +13,13 @@ use Rattle.repo_api.specs.declared.entry.NodeKind.TheVariants as kinds
 use Rattle.wire_replies.specs.{Pieces.pieces, declared.entries.DirectoryInfo.DirectoryInfo as DirectoryInfoValue}
 use Rattle.wire_replies.specs.{declared.entries.FileInfo.FileInfo as FileInfoValue, declared.entries.NodeInfo.NodeInfo}
 use Rattle.wire_replies.specs.{declared.failures.FailureLink.FailureLink, declared.histories.LogEntry.LogEntry as LogEntryValue}
+use Rattle.wire_replies.specs.declared.file_revisions.FileRevision.{FileRevision as FileRevisionValue}
 use Rattle.wire_replies.specs.{declared.histories.LoggedChange.LoggedChange, declared.reply.Offer.Offer}
 use Rattle.wire_replies.specs.{declared.reply.Offer.TheVariants.{Anonymous, AnonymousOrUser, User}, declared.reply.Reply.Reply}
 use Rattle.wire_replies.specs.declared.reply.Reply.TheVariants.{Greeting, NoLogin, Login, MechanismNotOffered, Challenge, LoginFailed, Success, ReposInfo}
 use Rattle.wire_replies.specs.declared.reply.Reply.TheVariants.{Revision, Kind, Properties, Lock, Locks, CommitInfo, FileInfo, Piece, DirectoryInfo, Stat}
-use Rattle.wire_replies.specs.declared.reply.Reply.TheVariants.{RevisionProperty, LogEntry, Location, Segment, Edit, Done, Failure, Failures}
+use Rattle.wire_replies.specs.declared.reply.Reply.TheVariants.{RevisionProperty, LogEntry, Location, Segment, FileRevision, Chunk}
+use Rattle.wire_replies.specs.declared.reply.Reply.TheVariants.{Edit, Done, Failure, Failures}
 
 -- the text of a number of 128 bits: `8-4-4-4-12` lower-case hexadecimal digits
 abbrev pub uuid_text : ℕ → List ℕ
@@ -146,6 +148,20 @@ abbrev pub segment_item : ℕ → ℕ → Option PathValue → ItemValue
 segment_item first last path =
     list (more (number first) (both (number last) (list (bare_path_trees path))))
 
+-- `( name [ value ] ) ...`: properties that have a value now, or none
+abbrev pub property_change_trees : List (List ℕ × Option (List ℕ)) → ItemValues
+property_change_trees [] = none
+property_change_trees (c ∷ cs) =
+    more (list (both (string c.0) (list (optional_string_trees c.1)))) (property_change_trees cs)
+
+-- `( path rev ( ( name value ) ... ) ( ( name [ value ] ) ... ) false )`: a revision of a file, with
+-- the properties of the revision, and what differs in those of the file; none was merged
+abbrev pub file_revision : FileRevisionValue → ItemValue
+file_revision told =
+    list (more (string (path_text told.path)) (more (number told.revision)
+    (more (list (property_trees told.properties))
+    (both (list (property_change_trees told.changes)) (word (codes "false"))))))
+
 -- `( path token owner [ comment ] created ( ) )`: a lock at a path; no lock has an end
 abbrev pub lock_tree : PathValue → LockValue → ItemValue
 lock_tree path lock =
@@ -218,6 +234,8 @@ reply_item (RevisionProperty value) = success (only (list (optional_string_trees
 reply_item (LogEntry entry) = log_entry entry
 reply_item (Location revision path) = location_item revision path
 reply_item (Segment first last path) = segment_item first last path
+reply_item (FileRevision told) = file_revision told
+reply_item (Chunk bytes) = string bytes
 reply_item (Edit command) = command_item command
 reply_item Done = word (codes "done")
 reply_item (Failure refusal path) =

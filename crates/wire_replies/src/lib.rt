@@ -5,6 +5,7 @@ mod build;
 mod contents;
 mod entries;
 mod failures;
+mod file_revisions;
 mod histories;
 mod laws;
 mod locks;
@@ -20,6 +21,7 @@ pub use entries::{
     say_file_info,
 };
 pub use failures::{FailureLink, FailureLinks};
+pub use file_revisions::{FileRevision, PropertyChanges};
 pub use histories::{
     ChangeList, LogEntry, LogFacts, LoggedChange, say_change, say_log_end, say_log_head,
 };

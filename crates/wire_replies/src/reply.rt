@@ -10,6 +10,7 @@ use crate::entries::{
     DirectoryInfo, FileInfo, NodeInfo, directory_info_item, file_info_item, stat_item,
 };
 use crate::failures::{FailureLinks, failures_item};
+use crate::file_revisions::{FileRevision, file_revision_item};
 use crate::histories::{LogEntry, location_item, log_entry_item, segment_item};
 use crate::locks::{LockList, lock_item, locks_item};
 use crate::numbers::uuid_text;
@@ -80,9 +81,13 @@ pub enum Reply {
     Location(u64, Path),
     /// The path that something had from the one revision to the other, or that it was nowhere.
     Segment(u64, u64, Option<Path>),
+    /// A revision of a file, without its text.
+    FileRevision(FileRevision),
+    /// The next bytes of a delta, or the empty string that ends it.
+    Chunk(ByteString),
     /// A command of a drive.
     Edit(EditorCommand),
-    /// No further revision of a log comes, or no further location or segment.
+    /// No further revision of a log or of a file comes, or no further location or segment.
     Done,
     /// The command is refused, and the path at which it is, if that is told.
     Failure(Refusal, Option<Path>),
@@ -115,6 +120,8 @@ impl Drop for Reply {
             Reply::LogEntry(_) => {}
             Reply::Location(_, _) => {}
             Reply::Segment(_, _, _) => {}
+            Reply::FileRevision(_) => {}
+            Reply::Chunk(_) => {}
             Reply::Edit(_) => {}
             Reply::Done => {}
             Reply::Failure(_, _) => {}
@@ -180,6 +187,8 @@ impl Reply {
                 segment_item(alloc, *first, *last, path),
                 out,
             ),
+            Reply::FileRevision(told) => write_made(file_revision_item(alloc, told), out),
+            Reply::Chunk(bytes) => write_string(bytes.as_slice(), out),
             Reply::Edit(command) => write_command(command, out),
             Reply::Done => out.extend_from_slice(b"done "),
             Reply::Failure(refusal, path) => write_made(refusal_item(alloc, *refusal, path), out),

@@ -1,8 +1,8 @@
--- What an update, a switch or a status asks for, as the items that spell it.
+-- What an update, a switch, a status or a diff asks for, as the items that spell it.
 use Rattle.std.specs.{Prelude.{ℕ, Bool, true, false, List, Option, Some, None}, Option.option_map_or}
 use Rattle.items.specs.Values.{ItemValues, none, more}
 use Rattle.wire_forms.specs.Forms.{◌>>=◌, string_first, flag_first, revision_first}
-use Rattle.wire_reports.specs.{Depths.{depth_first, depth_at_end}, declared.asking.DriveRequest.DriveRequest, declared.depth_word.DepthWord.DepthWord}
+use Rattle.wire_reports.specs.{Depths.{depth_first, depth_at_end}, declared.asking.DiffRequest.DiffRequest, declared.asking.DriveRequest.DriveRequest, declared.depth_word.DepthWord.DepthWord}
 
 -- what the first of these items says, if it is the word `true` or `false`, and this otherwise
 abbrev pub flag_or : Bool → ItemValues → Bool
@@ -84,4 +84,34 @@ status params = do
     recurse = recurse;
     depth = depth;
     ignores_ancestry = false;
+  })
+
+-- `? text-deltas ? depth`: nothing, or whether texts are sent, and a depth, if there is one. Where
+-- nothing is said of texts they are sent.
+abbrev pub diff_at_end : ItemValues → Option (Bool × Option DepthWord)
+diff_at_end none = Some (true, None)
+diff_at_end items = do
+  (sends_texts, rest) ← flag_first items
+  depth ← depth_at_end rest
+  Some (sends_texts, depth)
+
+-- `( [ rev ] target recurse ignore-ancestry url ? text-deltas ? depth )`
+abbrev pub diff : ItemValues → Option DiffRequest
+diff params = do
+  (revision, rest) ← revision_first params
+  (target, rest) ← string_first rest
+  (recurse, rest) ← flag_first rest
+  (ignores_ancestry, rest) ← flag_first rest
+  (url, rest) ← string_first rest
+  (sends_texts, depth) ← diff_at_end rest
+  Some (record {
+    drive = record {
+      revision = revision;
+      target = target;
+      recurse = recurse;
+      depth = depth;
+      ignores_ancestry = ignores_ancestry;
+    };
+    url = url;
+    sends_texts = sends_texts;
   })

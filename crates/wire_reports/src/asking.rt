@@ -1,17 +1,17 @@
-//! What an update, a switch or a status asks for.
+//! What an update, a switch, a status or a diff asks for.
 ghost use Rattle.std.specs.Prelude.{◌≡◌, option_map};
 ghost use Rattle.items.specs.View.{values_of};
 ghost use Rattle.wire_forms.specs.Answering.{Reads};
-ghost use Rattle.wire_reports.specs.Asking.{after_first, flag_or, revision_behind, status, switch, switch_at_end, update, update_at_end};
+ghost use Rattle.wire_reports.specs.Asking.{after_first, diff, diff_at_end, flag_or, revision_behind, status, switch, switch_at_end, update, update_at_end};
 
 use crate::depth_word::{DepthWord, depth_word};
 use crate::parameters::read_last_depth;
 use byte_string::ByteString;
 use items::Item;
 use wire_forms::CommandFault::{self, BadParameters};
-use wire_forms::{read_flag, read_optional_number, read_revision, read_string};
+use wire_forms::{read_boolean, read_flag, read_optional_number, read_revision, read_string};
 
-/// What an update, a switch or a status asks for.
+/// What an update, a switch, a status or a diff asks for.
 #[derive(Drop)]
 pub struct DriveRequest {
     /// The revision that is asked for, or `None` for the youngest.
@@ -23,6 +23,16 @@ pub struct DriveRequest {
     pub depth: Option<DepthWord>,
     /// Whether an entry of another line of history may take the place of what the client has.
     pub ignores_ancestry: bool,
+}
+
+/// What a diff asks for.
+#[derive(Drop)]
+pub struct DiffRequest {
+    pub drive: DriveRequest,
+    /// The URL of what is compared with what the client has.
+    pub url: ByteString,
+    /// Whether texts are sent, or else only which files have another one.
+    pub sends_texts: bool,
 }
 
 /// Reads `( [ rev ] target recurse ? depth send-copyfrom ignore-ancestry )`.
@@ -127,6 +137,44 @@ pub fn read_status(params: &[Item]) -> Result<DriveRequest, CommandFault>
         recurse,
         depth,
         ignores_ancestry: false,
+    })
+}
+
+/// Reads `? text-deltas ? depth` of a diff: whether texts are sent, and the depth, if there is one.
+fn read_diff_end(items: &[Item]) -> Option<(bool, Option<DepthWord>)>
+    ensures { result ≡ diff_at_end (values_of items.now) }
+{
+    match items {
+        [] => Some((true, None)),
+        [first, rest @ ..] => {
+            let sends_texts = read_boolean(first)?;
+            let depth = read_last_depth(rest)?;
+            Some((sends_texts, depth))
+        }
+    }
+}
+
+/// Reads `( [ rev ] target recurse ignore-ancestry url ? text-deltas ? depth )`.
+pub fn read_diff(params: &[Item]) -> Result<DiffRequest, CommandFault>
+    ensures { Reads result (diff (values_of params.now)) }
+{
+    let (revision, rest) = read_revision(params).ok_or(BadParameters)?;
+    let (target, rest) = read_string(rest).ok_or(BadParameters)?;
+    let (recurse, rest) = read_flag(rest).ok_or(BadParameters)?;
+    let (ignores_ancestry, rest) = read_flag(rest).ok_or(BadParameters)?;
+    let (url, rest) = read_string(rest).ok_or(BadParameters)?;
+    let (sends_texts, depth) = read_diff_end(rest).ok_or(BadParameters)?;
+    let url = url.clone()?;
+    Ok(DiffRequest {
+        drive: DriveRequest {
+            revision,
+            target: target.clone()?,
+            recurse,
+            depth,
+            ignores_ancestry,
+        },
+        url,
+        sends_texts,
     })
 }
 

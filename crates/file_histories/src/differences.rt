@@ -1,0 +1,70 @@
+//! What differs in properties.
+ghost use Rattle.std.specs.Prelude.{◌≡◌, ◌++◌, IfOk, map, option_copied};
+ghost use Rattle.file_histories.specs.Differing.{differing, differing_of, is_other, names_in_both};
+
+use byte_string::ByteString;
+use repo_api::{Properties, is_same_value};
+use sequence::Sequence;
+use std::alloc::{AllocError, Global};
+
+/// Properties by their names, each with its value, or without one where it is gone.
+pub type DifferingProperties = Sequence<(ByteString, Option<ByteString>)>;
+
+/// Says whether a property has another value now, or has come or gone.
+fn is_other(old: &Properties, new: &Properties, name: &ByteString) -> bool
+    ensures { result ≡ is_other old.now new.now name.now }
+{
+    !is_same_value(old.get(name), new.get(name))
+}
+
+/// Makes the properties that are in one or the other.
+fn in_both(old: &Properties, new: &Properties) -> Result<Properties, AllocError>
+    ensures { IfOk result (λ both. map (λ p. p.0) both ≡ names_in_both old.now new.now) }
+{
+    let mut both = old.clone()?;
+    for (name, value) in new.iter() {
+        both.set(name.clone()?, value.clone()?)?;
+    }
+    Ok(both)
+}
+
+/// Copies a value, if there is one.
+fn copied(value: Option<&ByteString>) -> Result<Option<ByteString>, AllocError>
+    ensures { IfOk result (λ copy. copy ≡ option_copied value.entry) }
+{
+    match value {
+        None => Ok(None),
+        Some(value) => Ok(Some(value.clone()?)),
+    }
+}
+
+/// Gives those of the properties of these names that differ.
+fn differing_of(
+    alloc: Global,
+    old: &Properties,
+    new: &Properties,
+    names: &Properties,
+) -> Result<DifferingProperties, AllocError>
+    ensures { IfOk result (λ found. found
+        ≡ differing_of old.now new.now (map (λ p. p.0) names.now)) }
+{
+    let mut found = Sequence::new(alloc);
+    for (name, _) in names.iter() {
+        if is_other(old, new, name) {
+            found.push((name.clone()?, copied(new.get(name))?))?;
+        }
+    }
+    Ok(found)
+}
+
+/// Gives the properties that differ, by their names' bytes, each with the value that it has now, if any.
+pub fn differing(
+    alloc: Global,
+    old: &Properties,
+    new: &Properties,
+) -> Result<DifferingProperties, AllocError>
+    ensures { IfOk result (λ found. found ≡ differing old.now new.now) }
+{
+    let names = in_both(old, new)?;
+    differing_of(alloc, old, new, &names)
+}

@@ -1,0 +1,17 @@
+pub mod Made
+pub mod Options
+pub mod Coming
+pub mod Older
+pub mod Named
+pub mod Copies
+pub mod Fitting
+pub mod Changing
+pub mod Rising
+pub mod Reaching
+pub mod Parents
+pub mod Entering
+pub mod Whole
+pub mod Next
+pub mod Said
+pub mod Reading
+pub mod Opening

@@ -1,0 +1,3 @@
+pub mod Earlier
+pub mod Fitting
+pub mod Right
