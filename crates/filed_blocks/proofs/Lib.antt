@@ -1,0 +1,13 @@
+pub mod Sorted
+pub mod Changed
+pub mod Given
+pub mod Dumps
+pub mod Properties
+pub mod Before
+pub mod Listed
+pub mod Deep
+pub mod Own
+pub mod Filed
+pub mod Readable
+pub mod Whole
+pub mod Opening
