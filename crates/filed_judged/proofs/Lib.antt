@@ -1,0 +1,5 @@
+pub mod Listed
+pub mod Came
+pub mod Offsets
+pub mod Backwards
+pub mod Judged
