@@ -58,7 +58,7 @@ class Row:
         if kind.has_commits:
             limit = options.commits_within if kind.judges_commits else math.inf
             self.watches.append(Watch(self.server.port, limit, pause=0.2, commits=True))
-        self.first = self.server.memory()[0]
+        self.first, self.worked = self.server.memory()[0], self.server.seconds()
 
     def started(self, room):
         """Starts its server."""
@@ -155,7 +155,8 @@ class Row:
     def end(self):
         """Stops it. What was wrong."""
         self.leave()
-        self.say(f"{self.tally.sent:,} bytes were sent in all")
+        worked = self.server.seconds() - self.worked
+        self.say(f"{self.tally.sent:,} bytes were sent in all, for which it has worked {worked:.2f} s of a processor, with those beside it")
         for watch in self.watches:
             count, slowest, fault = watch.end()
             late = f"where the machine was late by {watch.late * 1000:.0f} ms at most"

@@ -10,8 +10,8 @@ from spelling import NO_TEXT, add_directory, add_file, close_file, delete_entry,
 
 # how many paths and revisions are named in one command: as many as an item has room for without a user, but for some
 NAMED = 190_000
-# how many dates are asked for in one piece
-DATES = 1_000
+# how many dates are asked for in one piece, and how often segments and a deletion within which a client goes
+DATES, LISTED = 1_000, 1_000
 # for how many seconds a processor may work at the locations, and at the log, of one command
 LOCATED_WITHIN, LOGGED_WITHIN = 1, 20
 # for how many seconds a processor may work at the revisions of a file with short texts, and how much memory a session takes beside a
@@ -56,8 +56,12 @@ def locations(row):
         told = asks(row, f"{len(revisions):,} locations of {what}", listed, spelling.locations(path, peg, revisions), most=LOCATED_WITHIN)
         if len(told) < most and not row.is_other:
             row.fail(f"of {what} {len(told):,} locations are told, and not {most:,}")
-    if not row.is_other:
-        goes_within(row, "the locations of what was replaced", spelling.locations("r", first, everywhere) * 4)
+    if row.is_other:
+        return
+    goes_within(row, "the locations of what was replaced", spelling.locations("r", first, everywhere) * 4)
+    segments, deletion = spelling.location_segments(f"m{count}", last), spelling.deleted_revision("f", first, last)
+    goes_within(row, "many times the segments of what was moved", segments * LISTED, is_of_today=True)
+    goes_within(row, "many searches for a deletion that there is not", deletion * LISTED, is_of_today=True)
 
 
 def logs(row):

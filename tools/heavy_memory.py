@@ -4,9 +4,9 @@ import time
 from pathlib import Path
 
 import spelling
-from clients import Client, connect, edit, failure_of, forget_peak, mebibytes
-from heavy import MEBIBYTE, PLACES, asks, goes_on, listed, takes_at_most
-from spelling import add_directory, add_file, close_file, delta, document, string
+from clients import Client, Refused, connect, edit, failure_of, forget_peak, mebibytes
+from heavy import MEBIBYTE, PLACES, asks, goes_on, listed, takes_at_most, told_in_journal
+from spelling import FINISH_REPORT, add_directory, add_file, close_file, delta, document, file_property, string
 
 STRING = 2**24
 # how much of one item a session holds at most: bytes as it logs in, bytes of a command, items of a command without a user and
@@ -16,9 +16,8 @@ ITEM_LIMIT = 2**25 + 2**17
 ITEMS_WITHOUT_USER, ITEMS_WITH_USER = 200_000, 650_000
 IN_BETWEEN = 32 * MEBIBYTE
 # how much memory fifteen sessions take at most that go on within an item of tiny ones, or without a user send a whole command of
-# words or of lists of one; that send one of lists of so many words, which cost most; that have logged in, and send one; and how
-# much one takes that goes on within an item of long strings, in MiB
-WORDS_LIMIT, LISTS_LIMIT, COMMANDS_LIMIT, STRINGS_LIMIT = 256, 300, 1024, 40
+# them; that have logged in, and send one; and how much one takes that goes on within an item of long strings, in MiB
+WORDS_LIMIT, COMMANDS_LIMIT, STRINGS_LIMIT = 256, 1024, 40
 # of how many words the lists are that cost most for each: of those of 17, 33 and 65 these did; the room doubles for the last one
 DEAREST = 65
 # how many bytes of addresses the server has where an edit does not end
@@ -29,6 +28,12 @@ REPORT_LIMIT = 192
 # how long a lock's comment may be, how many files a directory has that is listed, and how much memory a session takes at most that
 # is told of many locks or files, in MiB
 COMMENT, LISTED, LISTING_LIMIT = 2**16, 20_000, 4
+# how many properties a file has that is asked for them, each as long as a comment may be
+PROPERTIES = 256
+# how much memory fifteen reports may take at once, in MiB
+REPORTS_LIMIT = 1_024
+# what the journal says of a session whose item was too long
+TOO_LONG = "is given up: item too long"
 
 
 def announced(row):
@@ -116,7 +121,7 @@ def begun_login(row):
 def go_on(row, clients, piece, limit):
     """Clients that have begun an item go on within it by the same piece, side by side, until their sessions end, which they have
     to behind so many bytes."""
-    left, sent, begun = list(clients), 0, time.monotonic()
+    left, sent, begun, told = list(clients), 0, time.monotonic(), told_in_journal(row, TOO_LONG)
     while left and sent <= limit + IN_BETWEEN and time.monotonic() < begun + 300:
         for client in list(left):
             row.tally.sent += len(piece)
@@ -129,6 +134,10 @@ def go_on(row, clients, piece, limit):
     row.say(f"{len(clients)} sessions have ended behind {sent:,} bytes of one item, {took:.1f} s; what the system holds of it is among them")
     if left:
         row.fail(f"{len(left)} sessions go on behind {sent:,} bytes of one item")
+    row.settle(0.5)
+    told = told_in_journal(row, TOO_LONG) - told
+    if told != len(clients):
+        row.fail(f"the journal tells of {told} items that were too long, and there were {len(clients)}")
 
 
 def words(row):
@@ -152,15 +161,15 @@ def words(row):
         row.leave()
         takes_at_most(row, what, WORDS_LIMIT)
         row.settle()
-    for what, user, items, limit, most in (
-        ("without a user", None, ITEMS_WITHOUT_USER - 100, WORDS_LIMIT, LISTS_LIMIT),
-        ("with a user", "alice", ITEMS_WITH_USER - 100, COMMANDS_LIMIT, COMMANDS_LIMIT),
+    for what, user, items, limit in (
+        ("without a user", None, ITEMS_WITHOUT_USER - 100, WORDS_LIMIT),
+        ("with a user", "alice", ITEMS_WITH_USER - 100, COMMANDS_LIMIT),
     ):
         whole_commands(row, f"{what}, commands of {items:,} words", user, b"a " * items, limit)
         lists = items // 2
         whole_commands(row, f"{what}, commands of {lists:,} lists of one word", user, b"( a ) " * lists, limit)
         lists, dearest = items // (DEAREST + 1), b"( " + b"a " * DEAREST + b") "
-        whole_commands(row, f"{what}, commands of {lists:,} lists of {DEAREST} words", user, dearest * lists, most)
+        whole_commands(row, f"{what}, commands of {lists:,} lists of {DEAREST} words", user, dearest * lists, limit)
     goes_on(row, COMMANDS_LIMIT)
 
 
@@ -198,34 +207,40 @@ def report(row):
     goes_on(row)
 
 
-def endless_report(row):
-    """A report without an end. Gives the server's memory at its highest."""
-    client, told, begun = row.client(), 0, time.monotonic()
-    client.send(spelling.update() + spelling.set_path("", 0))
-    client.succeed()
-    try:
-        while time.monotonic() < begun + 300:
-            client.send(b"".join(spelling.delete_path(f"trunk/src/main/a/usual/path/of/{told + more}") for more in range(1000)))
-            told += 1000
-        row.fail(f"the session goes on behind {told} paths")
-    except OSError:
-        pass
+def endless_reports(row, count, most):
+    """Reports without an end, so many at once. Gives the server's memory at its highest."""
+    forget_peak(row.server.pid)
+    clients, told, begun = [row.client() for _ in range(count)], 0, time.monotonic()
+    for client in clients:
+        client.send(spelling.update() + spelling.set_path("", 0))
+        client.succeed()
+    while clients and time.monotonic() < begun + 300:
+        piece = b"".join(spelling.delete_path(f"trunk/src/main/a/usual/path/of/{told + more}") for more in range(1000))
+        told += 1000
+        for client in list(clients):
+            try:
+                client.send(piece)
+            except OSError:
+                clients.remove(client)
     took, peak = time.monotonic() - begun, row.server.memory()[1]
-    row.say(f"the session has ended behind some {told} paths of a report, {took:.1f} s, peak {mebibytes(peak)}")
-    if peak > row.first + REPORT_LIMIT * 1024:
-        row.fail(f"a report has taken {mebibytes(peak)}, more than {REPORT_LIMIT} MiB above {mebibytes(row.first)}")
+    row.say(f"{count} sessions have ended behind some {told:,} paths of a report each, {took:.1f} s, peak {mebibytes(peak)}")
+    if clients:
+        row.fail(f"{len(clients)} sessions go on behind {told:,} paths of a report")
+    if peak > row.first + most * 1024:
+        row.fail(f"{count} reports have taken {mebibytes(peak)}, more than {most:,} MiB above {mebibytes(row.first)}")
+    row.leave()
+    row.settle(3)
     return peak
 
 
 def paths(row):
-    """Two reports without an end, one after the other."""
-    first = endless_report(row)
-    row.leave()
-    row.settle(3)
-    second = endless_report(row)
+    """Two reports without an end, one after the other; and then fifteen at once."""
+    first = endless_reports(row, 1, REPORT_LIMIT)
+    second = endless_reports(row, 1, REPORT_LIMIT)
     if second > first + 64 * 1024:
         row.fail(f"the second report has taken {mebibytes(second)}, more than the first, {mebibytes(first)}")
-    goes_on(row, REPORT_LIMIT)
+    endless_reports(row, PLACES, REPORTS_LIMIT)
+    goes_on(row, REPORTS_LIMIT)
 
 
 def unread(port, client):
@@ -285,17 +300,34 @@ def listings(row):
     files = [f"d/{number}" for number in range(LISTED)]
     made = [add_file(name, "d0", "c1") + close_file("c1") for name in locked]
     made += [add_directory("d", "d0", "d1"), *(add_file(name, "d1", "c1") + close_file("c1") for name in files)]
-    edit(alice, *made)
+    value = b"v" * COMMENT
+    with row.attack(f"a file with {PROPERTIES:,} properties of {COMMENT:,} bytes"):
+        edit(alice, *made, add_file("p", "d0", "c1"), *(file_property("c1", f"p{number}", value) for number in range(PROPERTIES)))
+    if not row.is_other:
+        refuses_comment(row, alice, locked[0])
     with row.attack(f"{count} locks are made with comments of {COMMENT:,} bytes"):
         for name in locked:
             alice.ask(spelling.lock(name, b"c" * COMMENT))
     for what, take, command in (
         (f"{count} such locks", Client.ask, spelling.get_locks("")),
         (f"a directory of {LISTED:,} files", Client.ask, spelling.get_directory("d")),
-        (f"a log with {LISTED + count + 1:,} changes", listed, spelling.log([""], b"", b"0 ", True)),
+        (f"a log with {LISTED + count + 2:,} changes", listed, spelling.log([""], b"", b"0 ", True)),
+        (f"{PROPERTIES:,} properties of {COMMENT:,} bytes", Client.ask, spelling.get_file("p", properties=True, contents=False)),
     ):
         takes_nothing(row, what, command)
         asks(row, f"one asks for {what}, and takes it", take, command)
+    adding = spelling.update("p") + spelling.set_path("", 0, True) + FINISH_REPORT
+    takes_nothing(row, "an update that adds the file with these", adding)
+
+
+def refuses_comment(row, client, path):
+    """A lock whose comment is a byte too long has to be refused."""
+    try:
+        client.ask(spelling.lock(path, b"c" * (COMMENT + 1)))
+    except Refused as refusal:
+        if refusal.number == 200007:
+            return
+    row.fail(f"a comment of {COMMENT + 1:,} bytes is not refused by 200007")
 
 
 def takes_nothing(row, what, command):

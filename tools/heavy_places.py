@@ -3,7 +3,10 @@
 import os
 import select
 import socket
+import subprocess
+import tempfile
 import time
+from concurrent.futures import ThreadPoolExecutor
 
 import spelling
 from clients import FULL, URL, Client, Ended, Refused, connect, edit
@@ -12,6 +15,10 @@ from spelling import CLOSE_EDIT, CRAM_MD5, add_directory, add_file, delta, docum
 
 # an address of this machine that no other client has, how many sessions it may have, and how many come beyond these
 STRANGER, PER_ADDRESS, COMING = "127.0.0.2", 4, 200
+# how many come at once where all places are taken, and how many of them may wait for one
+CROWD, MOST_WAITING = 100, 64
+# how many of Subversion's own clients are at work at once
+WORKING = 24
 
 
 def is_over(connection):
@@ -55,6 +62,24 @@ def is_refused(row, what):
         row.say(f"{what}, one that comes is told {told.decode()!r} after {took:.2f} s")
         if told != FULL or not 4.9 < took < 6:
             row.fail(f"{what}, one that comes is told {told!r} after {took:.2f} s")
+
+
+def crowd(row, what):
+    """More come at once than may wait for a place: who may not has to be refused at once, and the others after some five seconds."""
+    begun, waits = time.monotonic(), []
+    left = [connect(row.server.port) for _ in range(CROWD)]
+    while left and time.monotonic() < begun + 10:
+        for connection in select.select(left, [], [], 0.1)[0]:
+            waits.append(time.monotonic() - begun)
+            if (told := connection.recv(4096)) != FULL:
+                row.fail(f"{what}, one of {CROWD} that come is told {told!r}")
+            left.remove(connection)
+            connection.close()
+    late = [took for took in waits if took > row.options.within]
+    at_once, first, last = len(waits) - len(late), min(late, default=0), max(late, default=0)
+    row.say(f"{what}, of {CROWD} that come {at_once} are refused at once, and {len(late)} after {first:.2f} to {last:.2f} s")
+    if left or at_once != CROWD - MOST_WAITING or not 4.9 < first <= last < 6:
+        row.fail(f"{what}, of {CROWD} that come {at_once} are refused at once, {len(late)} after {first:.2f} to {last:.2f} s, {len(left)} not")
 
 
 def addresses(row):
@@ -128,7 +153,7 @@ def silent(row):
     """Strangers that send nothing."""
     begun = time.monotonic()
     strangers = [greeted(row) for _ in range(PLACES)]
-    is_refused(row, f"{PLACES} strangers have come")
+    crowd(row, f"{PLACES} strangers have come")
     time.sleep(begun + 11 - time.monotonic())
     comes(row, f"{PLACES} strangers have sent nothing for ten seconds")
     gone = sum(map(is_over, strangers))
@@ -182,6 +207,30 @@ def reports(row):
     alice.succeed()
     alice.succeed()
     row.say(f"the edit that was silent longest has made revision {alice.item()[0]}")
+
+
+def working(row):
+    """Subversion's own clients, more of them than there are places: each command has to be served."""
+    url, until = f"svn://127.0.0.1:{row.server.port}/r", time.monotonic() + row.options.working
+
+    def work(number, room):
+        waits, faults = [], []
+        login = ["--username", "alice", "--password", "secret", "--no-auth-cache", "--non-interactive", "--config-dir", room]
+        while time.monotonic() < until:
+            for words in (["mkdir", "-m", "made", f"{url}/{number}-{len(waits)}"], ["ls", url], ["log", "--limit", "10", url]):
+                begun = time.monotonic()
+                ran = subprocess.run(["svn", *words, *login], stdin=subprocess.DEVNULL, capture_output=True, text=True)
+                waits.append(time.monotonic() - begun)
+                faults += [ran.stderr] if ran.returncode else []
+        return waits, faults
+
+    with row.attack(f"{WORKING} clients of Subversion are at work"), tempfile.TemporaryDirectory() as room:
+        with ThreadPoolExecutor(WORKING) as pool:
+            worked = list(pool.map(work, range(WORKING), [room] * WORKING))
+    waits, faults = (sum(found, []) for found in zip(*worked))
+    row.say(f"{WORKING} clients at work: {len(waits):,} commands, the longest {max(waits):.2f} s, {len(faults)} of them not served")
+    if faults:
+        row.fail(f"of {WORKING} clients at work {len(faults)} commands were not served, as by {faults[0]!r}")
 
 
 def taking(row):

@@ -273,6 +273,20 @@ def deep(row):
         says(row, f"a report that deletes a file, {depth} directories deep, {what}", report, path.count("/") + 1)
 
 
+def shallow(row):
+    """Updates by which a directory of many files is to have none of them, of a client that has them all, and of one that has none."""
+    alice, width = row.client("alice"), 50_000
+    with row.attack(f"a directory of {width:,} files"):
+        before = edit(alice, *(add_file(f"{number}", "d0", "c1") + close_file("c1") for number in range(width)))
+    change = [open_file("0", "d0", "c1"), *delta("c1", document(b"changed")), close_file("c1")]
+    after = edit(alice, *change)
+    empty = spelling.update("", b"%d " % after, True, b"empty false ")
+    says(row, f"an update of depth `empty` at a directory of {width:,} files", empty + spelling.set_path("", before) + FINISH_REPORT, 1)
+    as_it_is = spelling.update("", b"%d " % after, True, b"unknown false ")
+    report = as_it_is + spelling.set_path("", before, rest=b"( ) empty ") + FINISH_REPORT
+    says(row, "an update of a working copy of depth `empty`", report, 1)
+
+
 def changed(row):
     """An update of one changed file in the deepest of some directories."""
     alice, depth = row.client("alice"), 12

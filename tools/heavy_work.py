@@ -7,7 +7,22 @@ import time
 import spelling
 from clients import URL, edit, mebibytes
 from heavy import MEBIBYTE
-from spelling import LATEST, NO_TEXT, add_directory, add_file, close_file, delta, document, integer, open_directory, open_file, string, window
+from spelling import (
+    CLOSE_EDIT,
+    LATEST,
+    NO_TEXT,
+    add_directory,
+    add_file,
+    close_directory,
+    close_file,
+    delta,
+    document,
+    integer,
+    open_directory,
+    open_file,
+    string,
+    window,
+)
 
 # how many commands the edits of the rows `properties` and `tokens` have
 EDITS = [1000, 2000, 4000, 8000, 16000]
@@ -15,6 +30,8 @@ EDITS = [1000, 2000, 4000, 8000, 16000]
 TEXT, EDIT_LIMIT = 2**24, 4096
 # how long a window of svndiff is that svnserve takes
 WINDOW = 2**16
+# how many texts of 16 MiB, directories and paths are in what a client has sent that goes
+LEFT_TEXTS, LEFT_DIRECTORIES, LEFT_PATHS = 40, 20_000, 60_000
 
 
 def commands(row):
@@ -100,13 +117,39 @@ def changed_text(number, size):
     return NO_TEXT + b"".join(window(begin, size, size, instructions, byte) for begin in range(0, TEXT, size))
 
 
+def with_text(row, client):
+    """A file with a text of 16 MiB. Gives its revision."""
+    with row.attack("a text of 16 MiB, by copies of one of 64 KiB"):
+        edit(client, add_file("f", "d0", "c1"), *delta("c1", document(os.urandom(WINDOW))))
+        pieces = b"".join(window(0, WINDOW, WINDOW, copied(WINDOW, 0), b"") for _ in range(TEXT // WINDOW))
+        return edit(client, open_file("f", "d0", "c1"), *delta("c1", NO_TEXT + pieces))
+
+
+def left(row):
+    """Clients that go within an edit and a report, behind more than the server has read, and while their commit is made."""
+    with_text(row, row.client("alice"))
+    texts = ([open_file("f", "d0", "c1"), *delta("c1", changed_text(number, TEXT)), close_file("c1")] for number in range(LEFT_TEXTS))
+    directories = b"".join(add_directory(f"d{number}", "d0", "d1") + close_directory("d1") for number in range(LEFT_DIRECTORIES))
+    for what, user, content in (
+        (f"{LEFT_PATHS:,} paths of a report", None, spelling.delete_path("no/such/path") * LEFT_PATHS),
+        (f"{LEFT_DIRECTORIES:,} directories of an edit", "alice", directories),
+        (f"{LEFT_TEXTS} texts of 16 MiB of an edit", "alice", b"".join(sum(texts, []))),
+        (f"a commit of {LEFT_DIRECTORIES:,} directories", "alice", directories + CLOSE_EDIT),
+    ):
+        client = row.client(user)
+        client.send(spelling.commit("left") + spelling.open_root() if user else spelling.update() + spelling.set_path("", 0))
+        for _ in range(2 if user else 1):
+            client.succeed()
+        with row.attack(f"a client goes behind {what}"):
+            client.send(content)
+            took = row.go(client)
+        row.say(f"a client goes behind {what}: its place is free after {took:.2f} s")
+
+
 def saving(row):
     """A commit of many long texts, of which few bytes are sent."""
     alice, size = row.client("alice"), WINDOW if row.is_other else TEXT
-    with row.attack("a text of 16 MiB, by copies of one of 64 KiB"):
-        edit(alice, add_file("f", "d0", "c1"), *delta("c1", document(os.urandom(WINDOW))))
-        pieces = b"".join(window(0, WINDOW, WINDOW, copied(WINDOW, 0), b"") for _ in range(TEXT // WINDOW))
-        revision = edit(alice, open_file("f", "d0", "c1"), *delta("c1", NO_TEXT + pieces))
+    revision = with_text(row, alice)
     source, commands, count = string(f"{URL}/f") + b"%d " % revision, [], row.options.texts
     for number in range(count):
         changes = delta("c1", changed_text(number, size))

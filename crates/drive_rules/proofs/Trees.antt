@@ -4,7 +4,7 @@ use Rattle.std.proofs.{Common.{subst, ◌⊎◌, inl, inr, ⊎_elim, option_map,
 use Rattle.std.specs.Prelude.{IsTrue, IsSome, IsSomeAnd}
 use Rattle.svnpath.specs.{PathLaws.{rest_append, same_path_refl, under_is}, Paths.{Component, is_at_or_under, PathValue, same_path}}
 use Rattle.repo_api.specs.{Trees.{HasDirectory, is_directory, IsTree, Tree}, declared.entry.Entry.Entry}
-use Rattle.drive_rules.specs.{declared.depth.Depth.Depth, Steps.{Step, Node, node_of}, Drives.{Counts, IsRight, IsInBoth, HasReason, Differs}}
+use Rattle.drive_rules.specs.{declared.depth.Depth.Depth, Steps.{Step, node_of}, Drives.{Counts, IsRight, IsInBoth, HasReason, Differs}}
 use Rattle.drive_rules.specs.Scopes.{under, HoldsTogether, DepthLimit, scope_of, within, stays_in_scope, includes, depth_said, own_or_inherited, top_limit}
 use Rattle.drive_rules.proofs.{Joined.{and_front, and_both, none_some}, Entries.{below_under, below_apart}}
 

@@ -153,7 +153,8 @@ file_closed purpose checksum (Received text) h hs = when (is_sent_checksum purpo
 
 -- ---- commands
 
--- What a command of a drive says, and what is open after it, where it has its place. The top is the target, and the base the text that the client has of a file.
+-- What a command of a drive says, and what is open after it, where it has its place. The top is the
+-- target, and the base the text that the client has of a file.
 abbrev pub steps_said : Purpose → PathValue → (PathValue → List ℕ) → List OpenEntry
     → EditorCommand → Said
 steps_said purpose top base hs (TargetRevision n) = None

@@ -1,5 +1,5 @@
 //! What is open in an edit, by its tokens.
-ghost use Rattle.std.specs.{Prelude.{◌≡◌, ◌++◌, ◌∷◌, [], false, IfOk, OnOk, OnErr, Some, option_copied}, Map.lookup};
+ghost use Rattle.std.specs.Prelude.{◌≡◌, ◌++◌, ◌∷◌, [], false, IfOk, OnOk, OnErr, Some, option_copied};
 ghost use Rattle.svnpath.specs.Paths.{PathValue, same_path};
 ghost use Rattle.revision_data.specs.Found.{found};
 ghost use Rattle.edit_rules.specs.Tokens.{HavePlaces, opened_under, with_token, without_token};

@@ -21,7 +21,7 @@ use Rattle.fsfs_laws.proofs.Entries.{entries_again}
 use Rattle.filed_trees.specs.{Tables.placed_in, declared.placed.Placed.Placed}
 use Rattle.filed_writing.specs.{declared.counter.Counter.Counter, declared.revision.Revision.Revision}
 use Rattle.filed_writing.specs.Layout as layout
-use Rattle.filed_writing.specs.Layout.{comes, content_by, entries_before, entry_of, file_id, has_new, made_from, next_after, piece_of}
+use Rattle.filed_writing.specs.Layout.{comes, content_by, entries_before, entry_of, file_id, has_new, made_from, next_after}
 use Rattle.filed_writing.specs.Pieces.{Before, Brings, Copy, all_some, any_new, brings, dump_in, entry_with, ids_of, is_file, kind_of, some_bytes}
 use Rattle.filed_again.specs.Fitting.{PlacedFits}
 use Rattle.filed_again.proofs.{Changing.{Split, split}, Fitting.body_long, Made.{AreMade, IsMade}, Older.IsOlder, Options.{if_some, map_some, more_some, of_some}}

@@ -12,7 +12,7 @@ use Rattle.fsfs_parts.specs.declared.change.FileChange.{FileChange}
 use Rattle.filed_trees.specs.Changes.{ChangeRows, action_in, change_in, changes_by, source_in, with_change, with_changes, with_rows}
 use Rattle.filed_writing.specs.{Layout.{ListsChanges, change_of, changed_id}, Pieces.{all_some, file_action, file_change, source_place}, declared.revision.Revision.Revision}
 use Rattle.filed_again.proofs.{Changing.split, Options.{each_some, map_some, of_some}}
-use Rattle.filed_blocks.specs.Blocks.{AreRightChanges, ChangeIsRight}
+use Rattle.filed_writing.specs.Blocks.{AreRightChanges, ChangeIsRight}
 use Rattle.filed_blocks.proofs.Sorted.{in_order}
 
 same_action : (action : Action) → action_in (file_action action) ≡ action

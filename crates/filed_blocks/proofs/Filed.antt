@@ -15,7 +15,7 @@ use Rattle.filed_writing.specs.Layout as layout
 use Rattle.filed_writing.specs.{Layout.{comes, content_of, made_from, piece_of}, Pieces.{Before, Brings, Copy, brings, dump_before, dump_in, kind_of, properties_dump, properties_kept, properties_of, text_of_before}}
 use Rattle.filed_writing.specs.{declared.counter.Counter.Counter, declared.revision.Revision.Revision}
 use Rattle.filed_again.proofs.{Entering.directory, Options.of_some}
-use Rattle.filed_blocks.specs.Blocks.{IsRightHere, own_from}
+use Rattle.filed_writing.specs.Blocks.{IsRightHere, own_from}
 use Rattle.filed_blocks.proofs.{Before.{IsBefore, directory_entries, filed_before, made_before, properties_filed, text_filed, text_given}, Changed.read_path, Given.{Given, given}}
 use Rattle.filed_blocks.proofs.{Listed.{AreKnownIds, entries_given}, Own.{own_earlier, own_given}, Properties.properties_given}
 

@@ -8,7 +8,7 @@ use Rattle.revision_data.specs.Found.{found}
 use Rattle.noderevs.specs.{Held.{blocks_of, node_at}, Nodes.mark_of, OpeningBlocks.{AreOpening, IsOpeningBlock}, declared.node_rev.NodeRev.NodeRev, declared.nodes.Nodes.Nodes}
 use Rattle.filed_trees.specs.{Tables.placed_in}
 use Rattle.filed_writing.specs.{Layout.{made_from, nodes_in, nodes_of}, Origins.predecessor_of, Pieces.with_both, declared.revision.Revision.Revision}
-use Rattle.filed_blocks.specs.Blocks.{AreRightChanges, IsRightBlock, IsRightHere, PropertiesFit, own_from, right_own}
+use Rattle.filed_writing.specs.Blocks.{AreRightChanges, IsRightBlock, IsRightHere, PropertiesFit, own_from, right_own}
 
 no_properties : PropertiesFit []
 unfolding IsStrictlySortedBy

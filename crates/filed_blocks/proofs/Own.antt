@@ -10,7 +10,7 @@ use Rattle.fsfs_ids.specs.{Maybe.◌>>=◌, declared.id.FileId.FileId}
 use Rattle.fsfs_reading.specs.declared.piece.FilePiece.{FilePiece}
 use Rattle.filed_trees.specs.{Changes.{ChangeRows, changes_in}, Pieces.{RevisionBytes, path_in, piece_in}, Trees.{own_at, own_below, own_from, own_in}}
 use Rattle.filed_trees.specs.declared.placed.Placed.{Placed}
-use Rattle.filed_blocks.specs.Blocks as blocks
+use Rattle.filed_writing.specs.Blocks as blocks
 
 same_number : (n : ℕ) → (n == n) ≡ true
 same_number n = search (rules, arith)

@@ -12,7 +12,7 @@ use Rattle.fsfs_ids.specs.declared.representation.Representation.{Representation
 use Rattle.fsfs_folder.specs.{Properties.{judged, properties_bytes, properties_of, row_pair}, Rows.{rows_of, value_at, with_new, with_rows}}
 use Rattle.filed_trees.specs.Pieces.{RevisionBytes, properties_in}
 use Rattle.filed_writing.specs.Pieces.{Before, properties_dump}
-use Rattle.filed_blocks.specs.Blocks.{PropertiesFit}
+use Rattle.filed_writing.specs.Blocks.{PropertiesFit}
 use Rattle.filed_blocks.proofs.{Dumps.same_dump, Given.Given}
 
 abbrev pub by_name : List ℕ → List ℕ → Ordering

@@ -25,7 +25,7 @@ use Rattle.filed_writing.specs.{Layout.{comes, content_of, entry_of, file_id, ma
 use Rattle.filed_writing.specs.{declared.counter.Counter.Counter, declared.revision.Revision.Revision}
 use Rattle.filed_again.proofs.{Changing.{Split, split}, Entering.directory, Fitting.body_long, Options.{if_some}}
 use Rattle.filed_again.proofs.Entering as entering
-use Rattle.filed_blocks.specs.Blocks.{IsRightHere, PropertiesFit}
+use Rattle.filed_writing.specs.Blocks.{IsRightHere, PropertiesFit}
 use Rattle.filed_blocks.proofs.{Before.{IsBefore, filed_before, made_before, was_file}, Changed.read_path, Listed.{AreKnownIds, HasEntry, entries_fit, entry_parts, no_file, was_directory}, Properties.some_dump}
 use Rattle.filed_blocks.proofs.Listed as listed
 

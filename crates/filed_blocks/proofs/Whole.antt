@@ -26,7 +26,7 @@ use Rattle.filed_again.specs.{Earlier.AreEarlierLines, Fitting.{RevisionFits}, R
 use Rattle.filed_again.proofs.{Entering.{OfNode, as_many, of_node, piece_fits}, Made.{here_made}, Older.{all_older, earlier_place}, Options.{more_some, of_some}, Parents.{HasParent, parent}}
 use Rattle.filed_again.proofs.Whole as again
 use Rattle.filed_again.proofs.Whole.{read_again}
-use Rattle.filed_blocks.specs.Blocks.{IsRightBlock}
+use Rattle.filed_writing.specs.Blocks.{IsRightBlock}
 use Rattle.filed_blocks.proofs.{Changed.said_again, Deep.right_path, Filed.filed, Listed.AreKnownIds, Readable.{readable, tabled_at}}
 
 -- ---- lists

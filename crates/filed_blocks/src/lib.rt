@@ -16,7 +16,7 @@ ghost use Rattle.fsfs_laws.specs.Whole.{file_piece};
 ghost use Rattle.filed_trees.specs.{Changes.changes_by, Pieces.RevisionBytes, Readable.IsReadableFile, Tables.{AreTabled, HasRows}, declared.table.Table.Table};
 ghost use Rattle.filed_writing.specs.{Layout.{IsLaidOut, ListsChanges}, declared.revision.Revision.Revision};
 ghost use Rattle.filed_again.specs.{Earlier.AreEarlierLines, Fitting.RevisionFits, Right.IsRightRevision};
-ghost use Rattle.filed_blocks.specs.Blocks.{AreRightChanges, IsRightBlock, PropertiesFit};
+ghost use Rattle.filed_writing.specs.Blocks.{AreRightChanges, IsRightBlock, PropertiesFit};
 
 /// Shows that the changes that the lines of a file say are those of the revision.
 pub fn changes_are_read()

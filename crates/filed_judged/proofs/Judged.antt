@@ -21,7 +21,7 @@ use Rattle.filed_writing.specs.{Layout.{IsLaidOut, ListsChanges, change_of, chan
 use Rattle.filed_writing.specs.Pieces.{all_some, copied, copied_by, counted, file_change, ids_of, kind_of, source_place}
 use Rattle.filed_again.specs.{Earlier.AreEarlierLines, Fitting.RevisionFits, Right.IsRightRevision}
 use Rattle.filed_again.proofs.{Changing.split, Coming.from_tables, Made.here_placed, Older.{IsOlder, all_older}, Options.{each_some, map_some, more_some, of_some}, Rising.rising}
-use Rattle.filed_judged.specs.Sources.{SourcesAreEarlier}
+use Rattle.filed_writing.specs.Blocks.{SourcesAreEarlier}
 use Rattle.filed_judged.proofs.{Backwards.{was_written, is_read}, Came.{IsNew, IsOld, in_block, new_or_old, node_here, of, reads}, Listed.{AreListed, IsListed}, Offsets.{AreOfKind, found_kind, kind_at}}
 
 -- ---- sources

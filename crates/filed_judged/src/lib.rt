@@ -8,7 +8,7 @@ ghost use Rattle.fsfs_judging.specs.Judging.{judged_revision};
 ghost use Rattle.fsfs_laws.specs.Whole.{file_piece};
 ghost use Rattle.filed_writing.specs.{Layout.IsLaidOut, declared.revision.Revision.Revision};
 ghost use Rattle.filed_again.specs.{Earlier.AreEarlierLines, Fitting.RevisionFits, Right.IsRightRevision};
-ghost use Rattle.filed_judged.specs.Sources.{SourcesAreEarlier};
+ghost use Rattle.filed_writing.specs.Blocks.{SourcesAreEarlier};
 
 /// Shows that what is read of a file that was laid out is judged to be right: it names no revision that is
 /// not earlier as that of a predecessor or of a copy, and its new entries say of what kind they are.

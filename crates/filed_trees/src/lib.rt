@@ -23,5 +23,5 @@ pub use laws::{
     what_comes_next_depends_on_what_nodes_have,
 };
 pub use placed::Placed;
-pub use table::Table;
-pub use tabulating::{is_last_revision, tabulated};
+pub use table::{Table, place};
+pub use tabulating::tabulated;

@@ -54,7 +54,7 @@ fn copyroot_of(
 
 /// Gives what a table keeps of a node revision. The root of its copy is shared with another node revision's, if that is
 /// the same.
-fn place(alloc: Global, node: &FileNode, other: Option<&Placed>) -> Result<Placed, AllocError>
+pub fn place(alloc: Global, node: &FileNode, other: Option<&Placed>) -> Result<Placed, AllocError>
     ensures { IfOk result (λ placed. placed ≡ placed_of node.now) }
 {
     let copyroot = copyroot_of(alloc, node, other)?;

@@ -68,11 +68,7 @@ fn are_same_nodes(
 }
 
 /// Says whether the last revision of nodes, whose changes are these, is what was read.
-///
-/// # Errors
-///
-/// `AllocError` where memory is refused.
-pub fn is_last_revision(
+fn is_last_revision(
     alloc: Global,
     nodes: &Nodes,
     rev: u32,

@@ -2,9 +2,9 @@
 use Rattle.std.proofs.Common.{◌≡◌, ◌<◌, List, [], ◌∷◌, ◌++◌, length, Ok, ℕ, sym, ap, subst, ◌∙◌, arith, length-append, ◌+◌, refl}
 use Rattle.std.specs.{FinMap.entries, Prelude.{Result, Err, IfOk}}
 use Rattle.repo_api.specs.{States.ChangeMap, declared.limits.TheConstants.REVISION_LIMIT}
-use Rattle.noderevs.specs.{Heights.AreHigh, Held.{blocks_of, count, node_at}, Nodes.{node_in, with_block}, declared.node_rev.Block.Block}
+use Rattle.noderevs.specs.{Heights.AreHigh, Held.{blocks_of, count, node_at}, Nodes.with_block, declared.node_rev.Block.Block}
 use Rattle.next_blocks.specs.Rules.{IsNextRevision, past_of}
-use Rattle.held.specs.{declared.held.Held.Held, Growing.HasOneMore}
+use Rattle.held.specs.declared.held.Held.{Held}
 use Rattle.held.proofs.Seen.{held_many}
 use Rattle.world.specs.Adding.{MayComeNext}
 use Rattle.fsfs_judging.specs.Judging.{judged_revision}
@@ -12,9 +12,8 @@ use Rattle.fsfs_lines.specs.declared.fault.FileFault.{FileFault}
 use Rattle.fsfs_parts.specs.declared.change.FileChange.{FileChange}
 use Rattle.fsfs_reading.specs.{Pieces.revision_of, declared.piece.FilePiece.FilePiece}
 use Rattle.filed_trees.specs.{Pieces.RevisionBytes, Readable.{IsReadableFile, Judges}, Tables.AreTabled, declared.table.Table.Table}
-use Rattle.filed_world.specs.{Histories.{ComesNext, HasHistory, IsHistory, with_next, first, held_history}, Reading.{read_history, so_far}}
-use Rattle.filed_world.proofs.{Histories.{comes, history_more, keeps_rules, reads, past_many, comes_here}, Next.whole}
-use Rattle.noderevs.proofs.Pushing.{pushed_look}
+use Rattle.filed_world.specs.{Histories.{ComesNext, HasHistory, IsHistory, with_next, first}, Reading.{read_history, so_far}}
+use Rattle.filed_world.proofs.{Histories.{comes, history_more, keeps_rules, reads, past_many}, Next.whole}
 
 pub if_judged : {T : Type 0} (P : Type 0) (r : Result T FileFault) → Judges r P → IfOk r (λ x. P)
 if_judged P (Ok x) is = is
@@ -26,12 +25,6 @@ same_ok x y e = ap (the x) e
     the : {Y : Type 0} → Y → Result Y FileFault → Y
     the d (Ok z) = z
     the d (Err fault) = d
-
--- what is held is read, once a revision has been
-pub as_read : (h : Held) (tables : List Table) (files : RevisionBytes) → (tables ≡ [] → ⊥) → IsHistory (held_history h tables files)
-    → IsHistory (read_history h tables files)
-as_read h [] files some is = absurd (some refl)
-as_read h (t ∷ ts) files some is = is
 
 module _ (h : Held) (tables : List Table) (files : RevisionBytes) (some : tables ≡ [] → ⊥) (is : IsHistory (read_history h tables files)) where
   -- all that is held has been read
@@ -118,33 +111,3 @@ module _ (h : Held) (tables : List Table) (files : RevisionBytes) (some : tables
         subst (λ (x : List FilePiece × List FileChange). (judged_revision (length tables) x.0 x.1 ≡ Ok tt)
         × IsReadableFile (files ++ file ∷ []) tables x.0 x.1)
         (same_ok (s.0, s.1.0) (pieces, said) (sym s.1.1.0 ∙ says)) (s.1.1.1.0, s.1.1.1.1)
-
--- what a commit makes comes next, too
-pub committed_history : (old new : Held) (more : HasOneMore old new) (tables : List Table) (files : RevisionBytes) (file : List ℕ) (table : Table)
-    → IsHistory (held_history old tables files) → HasHistory (files ++ file ∷ []) → 0 < length files
-    → AreTabled (files ++ file ∷ []) (blocks_of new.nodes) (tables ++ table ∷ []) new.changes
-    → IsHistory (held_history new (tables ++ table ∷ []) (files ++ file ∷ []))
-committed_history old new more tables files file table is has some after =
-    subst IsHistory
-    (λ i. record {
-      files = files ++ file ∷ [];
-      blocks = sym more.blocks i;
-      tables = tables ++ table ∷ [];
-      changes = sym more.changes i;
-    })
-    (history_more (held_history old tables files) is file more.block table more.change said
-    (λ p. comes_here has.0 has.1.1 files file has.1.0 old.nodes tables old.changes is.all more.block table more.change said high some)
-    (λ none. absurd (omega (arith, none, some))) room)
-  where
-    said : AreTabled (files ++ file ∷ []) (blocks_of old.nodes ++ more.block ∷ []) (tables ++ table ∷ []) (old.changes ++ more.change ∷ [])
-    said = subst (λ bs. AreTabled (files ++ file ∷ []) bs (tables ++ table ∷ []) (old.changes ++ more.change ∷ [])) more.blocks
-        (subst (AreTabled (files ++ file ∷ []) (blocks_of new.nodes) (tables ++ table ∷ [])) more.changes after)
-
-    high : AreHigh (with_block (node_at old.nodes) (count old.nodes) more.block.nodes.items)
-    high = subst AreHigh (λ i id. (ap (λ bs. node_in bs id) more.blocks ∙ pushed_look (blocks_of old.nodes) more.block id) i) new.nodes.high
-
-    room : length files < REVISION_LIMIT
-    room =
-        let most = has.1.1.room in
-        let longer : length has.0.files ≡ length files + 1 = ap length has.1.0 ∙ length-append files (file ∷ []) in
-        omega (arith, most, longer)

@@ -11,8 +11,6 @@ use Rattle.filed_trees.specs.{Comparing.AreSame, Pieces.RevisionBytes, Readable.
 use Rattle.filed_trees.specs.declared.table.Table.{Table}
 use Rattle.filed_trees.proofs.{OneRepository.{readable_same, same_revisions}, SameNext.same_next}
 use Rattle.filed_world.specs.Histories.{AreSaid, ComesNext, History, IsHistory, first, with_next, ComesFirst}
-use Rattle.fsfs_reading.specs.Pieces.{revision_of}
-use Rattle.fsfs_judging.specs.Judging.{judged_revision}
 use Rattle.noderevs.proofs.Pushing.{last_place, other_place}
 
 -- ---- the first of revisions, and one more
@@ -173,16 +171,3 @@ module _ (h : History) (is : IsHistory h) (files : RevisionBytes) (file : List �
     pub keeps_rules : 0 < n → IsNextRevision (past_of nodes) c (entries l)
     keeps_rules pos = subst (IsNextRevision (past_of nodes) c) same_changes
         (same_next (comes pos).nodes nodes the_block.0 c (same_blocks pos) (entries the_change.0) (comes pos).rules high)
-
-    -- it comes after these, too
-    pub comes_here : 0 < n → ComesNext (record { files = files; blocks = blocks_of nodes; tables = tables; changes = changes }) file c l
-    comes_here pos = record {
-      pieces = (comes pos).pieces;
-      said = (comes pos).said;
-      says = ap (λ k. revision_of k file) (sym past_many) ∙ (comes pos).says;
-      judged = ap (λ k. judged_revision k (comes pos).pieces (comes pos).said) (sym past_many) ∙ (comes pos).judged;
-      readable = reads pos;
-      nodes = nodes;
-      before = refl;
-      rules = keeps_rules pos;
-    }

@@ -10,3 +10,6 @@ pub mod First
 pub mod Opened
 pub mod Taken
 pub mod InOrder
+pub mod Earlier
+pub mod Rows
+pub mod Going

@@ -3,8 +3,8 @@ use Rattle.std.specs.{Prelude.{◌≡◌, ℕ, suc, List, [], ◌∷◌, ◌++�
 use Rattle.std.specs.FinMap.{entries}
 use Rattle.repo_api.specs.{Opening.new_repository, Properties.PropertyList, States.{ChangeMap, LockMap}}
 use Rattle.noderevs.specs.{Heights.AreHigh, Held.{blocks_of, count, node_at}, Nodes.with_block, OpeningBlocks.AreOpening, declared.node_rev.Block.Block}
-use Rattle.held.specs.declared.held.Held.{Held}
-use Rattle.world.specs.{Adding.HasAdded, Whole.world_content, declared.world.World.World}
+use Rattle.held.specs.{Growing.HasOneMore, declared.held.Held.Held}
+use Rattle.world.specs.{Adding.{HasAdded, MayComeNext}, Whole.world_content, declared.world.World.World}
 use Rattle.repostore.specs.{Current.count_in, Files.{Files, RevisionFiles}, Reading.{IfFileFaulty, with_one_more, with_read_locks}}
 use Rattle.fsfs_lines.specs.declared.fault.FileFault.{FileFault}
 use Rattle.fsfs_format.specs.Formats.{format_of}
@@ -127,16 +127,17 @@ pub record IsSaidNext (f : FiledWorld) (file : List ℕ) (read : ReadRevision) :
   pub high : WhereTabled f (λ files. AreHigh (with_block (node_at f.world.held.value.nodes)
       (count f.world.held.value.nodes) read.block.nodes.items))
 
--- the file of the next revision was read back: it says that of the world, as opening reads it
-pub record IsReadBack (before : FiledWorld) (world : World) (file : List ℕ)
-    (now : List Table) : Type 0 where
-  pub table : Table
-  pub tables_are : now ≡ before.tables ++ table ∷ []
-  pub tabled : WhereTabled before (λ files. AreTabled (files ++ file ∷ [])
-      (blocks_of world.held.value.nodes) now world.held.value.changes)
-  pub history : (files : RevisionBytes)
-      → IsHistory (held_history before.world.held.value before.tables files)
-      → HasHistory (files ++ file ∷ [])
+-- the youngest block and changes of a world that has one more revision may come next
+abbrev pub IsRightNext : FiledWorld → World → Type 0
+IsRightNext before world = (more : HasOneMore before.world.held.value world.held.value)
+    → MayComeNext before.world.held.value more.block (entries more.change)
+
+-- behind the files of a history, with this one they are those of the history of a world, whose youngest
+-- revision is in the file as the table has it
+abbrev pub GoesOn : FiledWorld → World → List ℕ → Table → Type 0
+GoesOn before world file table = (files : RevisionBytes)
+    → IsHistory (held_history before.world.held.value before.tables files)
+    → IsHistory (held_history world.held.value (before.tables ++ table ∷ []) (files ++ file ∷ []))
 
 -- behind the revisions that have tables comes one more
 pub record IsNext (before : Held) (tables : List Table) (after : Held) : Type 0 where

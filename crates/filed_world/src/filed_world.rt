@@ -1,5 +1,4 @@
 //! A repository, and where its node revisions stand in its files.
-ghost use Rattle.std.specs.Prelude.{◌≡◌};
 
 use filed_trees::Table;
 use fsfs_folder::Current;
@@ -24,21 +23,5 @@ impl Drop for FiledWorld {
             tables: _,
             current: _,
         } = self;
-    }
-}
-
-impl FiledWorld {
-    /// Keeps the tables alone.
-    pub(crate) fn into_tables(self) -> PVec<Table>
-        ensures { result ≡ self.tables }
-    {
-        let FiledWorld {
-            alloc: _,
-            world,
-            tables,
-            current: _,
-        } = self;
-        std::mem::drop(world);
-        tables
     }
 }

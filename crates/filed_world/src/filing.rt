@@ -1,14 +1,16 @@
 //! The repository behind each change, with its files.
-ghost use Rattle.std.specs.Prelude.{◌≡◌, ◌<◌, ◌++◌, ◌∷◌, [], Some, IfOk, length};
+ghost use Rattle.std.specs.Prelude.{◌≡◌, ◌++◌, ◌∷◌, [], Some, IfOk, IfSome, length, true};
 ghost use Rattle.held.specs.Growing.{HasOneMore};
+ghost use Rattle.filed_again.specs.Fitting.{NextFit};
 ghost use Rattle.store_access.specs.Filing.{WritesLocks, WritesProperties, WritesRevision};
-ghost use Rattle.filed_world.specs.{Reading.IsReadBack, Files.{AreLocks, HasOneMoreRevision, HasOtherProperties, IsOf, filed_content}};
+ghost use Rattle.filed_world.specs.{Reading.{GoesOn, IsRightNext}, Files.{AreLocks, HasOneMoreRevision, HasOtherProperties, IsOf, filed_content}};
 
 use crate::filed_world::FiledWorld;
 use crate::written::{current_file, locks_file, properties_file};
-use filed_trees::{Table, is_last_revision};
-use filed_writing::write_revision;
-use fsfs_folder::Current;
+use filed_trees::Table;
+use filed_writing::{Written, write_revision};
+use fsfs_folder::{Current, NextIds};
+use next_blocks::NextBlock;
 use pvec::PVec;
 use repo_api::Repository;
 use std::alloc::{AllocError, Global};
@@ -40,6 +42,15 @@ pub(crate) fn with_table(
         return Err(AllocError);
     }
     tables.with_one(alloc, Arc::new(alloc, table)?)
+}
+
+/// Gives the ids that come next, where they are counted over all revisions.
+fn next_ids(current: Current) -> Option<NextIds>
+    ensures same { result ≡ current.ids }
+    ensures fit { IfSome result NextFit }
+{
+    let NextIds { node, copy } = current.ids?;
+    Some(NextIds { node, copy })
 }
 
 impl FiledWorld {
@@ -93,34 +104,44 @@ impl FiledWorld {
         Ok((made, new))
     }
 
-    /// Reads the files of the next revision as opening the folder does, and compares what they say with the
-    /// youngest revision of a repository that has one more than this one: gives the tables behind it. What could not
-    /// be read back is not made.
-    fn read_back(
-        &self,
-        world: &World,
-        revision: &[u8],
-        properties: &[u8],
-    ) -> Result<PVec<Table>, AllocError>
-        requires begun { 0 < length self.now.tables }
-        requires more { HasOneMore self.now.world.held.value world.now.held.value }
-        ensures { IfOk result (IsReadBack self.now world.now revision.now) }
+    /// Says whether the youngest revision of a repository that has one more than this one keeps the rules of a
+    /// history.
+    fn is_right_next(&self, world: &World) -> Result<bool, AllocError>
+        requires { HasOneMore self.now.world.held.value world.now.held.value }
+        ensures { IfOk result (λ right. right ≡ true → IsRightNext self.now world.now) }
     {
-        let Ok((read, list)) = self.read_further(revision, properties) else {
-            return Err(AllocError);
+        let number = world.youngest();
+        let nodes = self.world.nodes();
+        let Some(block) = world.nodes().block(number) else {
+            return Ok(false);
         };
-        let number = self.tables.len() as u32;
-        let changes = world.changes(world.youngest());
-        match is_last_revision(self.alloc, world.nodes(), number, changes, &read) {
-            Ok(true) => match self.with_read(read, list) {
-                Ok(made) => Ok(made.into_tables()),
-                Err(_) => Err(AllocError),
-            },
-            _ => {
-                std::mem::drop((read, list));
-                Err(AllocError)
-            }
+        if nodes.count() >= 262_144 {
+            return Ok(false);
         }
+        let next = NextBlock {
+            nodes,
+            block,
+            changes: world.changes(number),
+        };
+        next.is_next_revision(self.alloc)
+    }
+
+    /// Writes the file of the youngest revision of a repository that has one more than this one. What does not keep the
+    /// rules of a history, of which no commit makes one, is not written.
+    fn written(&self, world: &World) -> Result<Written, AllocError>
+        requires more { HasOneMore self.now.world.held.value world.now.held.value }
+        ensures { IfOk result (λ made. GoesOn self.now world.now made.file.items made.table) }
+    {
+        if !self.is_right_next(world)? {
+            return Err(AllocError);
+        }
+        write_revision(
+            self.alloc,
+            world.nodes(),
+            &self.tables,
+            world.changes(world.youngest()),
+            next_ids(self.current),
+        )
     }
 
     /// Makes the repository with one more revision, and the files of it.
@@ -134,34 +155,24 @@ impl FiledWorld {
             ≡ length (filed_content self.now).revisions) }
         ensures files { IfOk result (λ made. WritesRevision IsOf self.now made.1 made.0) }
     {
-        // a repository has its revision 0, so this never happens
-        if self.tables.len() == 0 {
-            return Err(AllocError);
-        }
         let number = world.youngest();
         let Some(list) = world.revision_properties(number) else {
             return Err(AllocError);
         };
-        let written = write_revision(
-            self.alloc,
-            world.nodes(),
-            &self.tables,
-            world.changes(number),
-            self.current.ids,
-        )?;
         let properties = properties_file(self.alloc, list)?;
+        let Written { file, table, ids } = self.written(&world)?;
         let current = Current {
             format: self.current.format,
             youngest: self.tables.len() as u32,
-            ids: written.ids,
+            ids,
         };
         let new = NewRevision {
             number,
-            revision: written.file,
+            revision: file,
             properties,
             current: current_file(self.alloc, current)?,
         };
-        let tables = self.read_back(&world, new.revision.as_slice(), new.properties.as_slice())?;
+        let tables = with_table(self.alloc, &self.tables, table)?;
         let made = FiledWorld {
             alloc: self.alloc,
             world,

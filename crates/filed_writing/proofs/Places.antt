@@ -1,11 +1,12 @@
 -- The nodes of a revision from a place on, and what comes of them.
-use Rattle.std.proofs.Common.{◌≡◌, ◌+◌, ◌-◌, ◌<◌, ◌≤◌, ℕ, List, [], ◌∷◌, ◌++◌, Option, Some, None, map, drop, length, refl, ap, sym, ⊎_elim, arith, ◌∙◌}
-use Rattle.std.proofs.lemmas.List.{append_assoc, drop_all, drop_more, length_push, map-append}
+use Rattle.std.proofs.Common.{◌≡◌, ◌+◌, ◌-◌, ◌<◌, ◌≤◌, ℕ, List, [], ◌∷◌, ◌++◌, Option, Some, None, All, get_or, map, drop, take, length, refl, ap, sym, subst, ⊎_elim, arith, ◌∙◌}
+use Rattle.std.proofs.lemmas.List.{append_assoc, drop_all, drop_more, length_push, map-append, take_all}
+use Rattle.std.proofs.lemmas.List.Elements.{All-contains, All-more}
 use Rattle.std.proofs.lemmas.Option.{get_or_from_slice_get, none-some, slice_get_cases, slice_get_within}
-use Rattle.std.specs.Prelude.{option_and_then, slice_get}
+use Rattle.std.specs.Prelude.{Contains, option_and_then, slice_get}
 use Rattle.noderevs.specs.{declared.node_rev.Block.Block, declared.node_rev.NodeRev.NodeRev}
 use Rattle.filed_writing.specs.{declared.copies.Origin.Origin, declared.counter.Counter.Counter, declared.revision.Revision.Revision}
-use Rattle.filed_writing.specs.{Drafts.comes_of, Layout.{all_come, comes, next_after, next_after_all, node_here, nodes_in, nodes_of}, Pieces.Comes}
+use Rattle.filed_writing.specs.{Blocks.IsRightHere, Drafts.comes_of, Layout.{all_come, comes, next_after, next_after_all, node_here, nodes_in, nodes_of}, Pieces.Comes}
 
 in_block : (o : Option Block) (k : ℕ) → slice_get (nodes_in o) k ≡ option_and_then (λ b. slice_get b.nodes.items k) o
 in_block None k = refl
@@ -27,6 +28,14 @@ past_end xs k none = ⊎_elim (λ some. absurd (none-some some.0 (sym none ∙ s
 -- no node is left
 pub past_all : (r : Revision) (k : ℕ) → node_here r k ≡ None → drop k (nodes_of r) ≡ []
 past_all r k none = drop_all k (nodes_of r) (past_end (nodes_of r) k (at_place r k ∙ none))
+
+-- where none is left each keeps the rules
+pub all_right : (r : Revision) (origins : List Origin) → node_here r (length origins) ≡ None → All (IsRightHere r) (take (length origins) (nodes_of r))
+    → (node : NodeRev) → Contains (nodes_of r) node → IsRightHere r node
+all_right r origins none all node among =
+    let k = length origins in
+    All-contains (IsRightHere r) (nodes_of r) node
+    (subst (λ (ns : List NodeRev). All (IsRightHere r) ns) (take_all k (nodes_of r) (past_end (nodes_of r) k (at_place r k ∙ none))) all) among
 
 -- one less is left
 pub left : (r : Revision) (origins now : List Origin) (o : Origin) (node : NodeRev) → node_here r (length origins) ≡ Some node
@@ -58,3 +67,12 @@ module _ (r : Revision) (origins now : List Origin) (o : Origin) (node : NodeRev
       ap (λ (k : ℕ). next_after_all r (drop k (nodes_of r)) after) long
       ∙ ap (λ (c : Counter). next_after_all r (drop (length origins + 1) (nodes_of r)) c) later
       ∙ ap (λ (ns : List NodeRev). next_after_all r ns next) (sym (from_here r (length origins) node there))
+
+  -- it keeps the rules, as those before it do
+  pub one_right : All (IsRightHere r) (take (length origins) (nodes_of r)) → IsRightHere r node → All (IsRightHere r) (take (length now) (nodes_of r))
+  one_right all is =
+      let at = at_place r (length origins) ∙ there in
+      let same : get_or (nodes_of r) (length origins) node ≡ node = get_or_from_slice_get (nodes_of r) (length origins) node node at in
+      subst (λ (k : ℕ). All (IsRightHere r) (take k (nodes_of r))) (sym long)
+      (All-more (IsRightHere r) (nodes_of r) (length origins) node (slice_get_within (nodes_of r) (length origins) node at) all
+      (subst (λ (n : NodeRev). IsRightHere r n) (sym same) is))

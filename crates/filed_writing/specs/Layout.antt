@@ -14,7 +14,7 @@ use Rattle.fsfs_parts.specs.declared.change.FileChange.{FileChange}
 use Rattle.fsfs_writing.specs.Files.{Piece, file_bytes, pieces_bytes}
 use Rattle.filed_trees.specs.{Tables.placed_in, declared.placed.Placed.Placed}
 use Rattle.filed_writing.specs.{Origins.{deleted_at, predecessor_of}, declared.counter.Counter.Counter, declared.revision.Revision.Revision}
-use Rattle.filed_writing.specs.Pieces.{Before, Brings, Comes, Copy, Writes, after_copy, after_node, all_some, any_new, begins, brings, copied, copy_before, copyroot_line, count_of, counted, counter_in, dump_in, entry_with, file_change, ids_after, ids_of, is_file, kind_of, later_copy, node_of, piece_by, properties_of, source_place, text_of_before, with_both}
+use Rattle.filed_writing.specs.Pieces.{Before, Brings, Comes, Copy, Writes, after_copy, after_node, all_some, any_new, begins, brings, copied, copy_before, copyroot_line, count_of, counted, counter_in, dump_in, entry_with, file_change, ids_after, ids_of, is_file, kind_of, later_copy, node_of, piece_by, properties_of, rows_of, source_place, text_of_before, with_both}
 
 -- ---- what is known of a node
 
@@ -172,12 +172,12 @@ abbrev pub piece_of : Revision → ℕ → NodeRev → Comes → Copy → Brings
 piece_of r offset node come copy content =
     piece_by offset (lines_of r node come copy) content (properties_of node come.predecessor)
 
--- a node revision is written behind these bytes, with what comes for its text or its entries, and has this id
+-- a node revision is written behind these bytes, with what comes for its text or its entries, and has these lines
 pub record WritesNode (r : Revision) (written : List FileId) (out : List ℕ) (node : NodeRev) (come : Comes)
-    (copy : Copy) (id : FileId) (new : List ℕ) : Type 0 where
+    (copy : Copy) (lines : FileNode) (new : List ℕ) : Type 0 where
   pub content : Brings
   pub content_is : content_of r written node come ≡ Some content
-  pub writes : Writes out (piece_of r (length out) node come copy content) id new
+  pub writes : Writes out (piece_of r (length out) node come copy content) lines new
 
 -- one more, behind those in front
 abbrev pub with_piece : Revision → List Piece → NodeRev → Comes → Copy → Brings → List Piece
@@ -194,13 +194,15 @@ pieces_of r front (node ∷ nodes) (come ∷ comes) (copy ∷ copies) = option_a
     (λ content. pieces_of r (with_piece r front node come copy content) nodes comes copies)
     (content_of r (ids_of front) node come)
 
--- the bytes and the ids of this revision's node revisions, which come from there and are of these copies
+-- the bytes and the ids of this revision's node revisions, which come from there and are of these copies, and what a
+-- table keeps of them
 pub record AreWritten (r : Revision) (comes : List Comes) (copies : List Copy) (bytes : List ℕ)
-    (ids : List FileId) : Type 0 where
+    (ids : List FileId) (placed : List Placed) : Type 0 where
   pub pieces : List Piece
   pub pieces_are : pieces_of r [] (nodes_of r) comes copies ≡ Some pieces
   pub bytes_are : bytes ≡ pieces_bytes pieces
   pub ids_are : ids ≡ ids_of pieces
+  pub placed_are : placed ≡ rows_of pieces
 
 -- ---- the changes, by the bytes of their paths
 
@@ -235,6 +237,10 @@ copies_here r ids = copies_of r 0 (nodes_of r) (comes_here r ids)
 -- the node revisions, one behind another
 abbrev pub pieces_here : Revision → Option NextIds → Option (List Piece)
 pieces_here r ids = pieces_of r [] (nodes_of r) (comes_here r ids) (copies_here r ids)
+
+-- what a table keeps of them
+abbrev pub rows_here : Revision → Option NextIds → Option (List Placed)
+rows_here r ids = option_map rows_of (pieces_here r ids)
 
 -- the ids that its nodes took are taken
 abbrev pub ids_here : Revision → Option NextIds → Option NextIds

@@ -15,7 +15,7 @@ use Rattle.fsfs_nodes.specs.{declared.entries.EntryKind.TheVariants.{File, Direc
 use Rattle.fsfs_parts.specs.{declared.change.FileAction.FileAction, declared.change.FileChange.FileChange}
 use Rattle.fsfs_parts.specs.declared.change.FileAction.TheVariants as actions
 use Rattle.fsfs_writing.specs.Files.{Piece, piece_bytes, placed_node}
-use Rattle.filed_trees.specs.{declared.placed.Placed.Placed}
+use Rattle.filed_trees.specs.{Tables.placed_of, declared.placed.Placed.Placed}
 use Rattle.filed_writing.specs.declared.counter.Counter.{Counter}
 
 -- an action puts something at its path
@@ -210,6 +210,10 @@ piece_by offset lines text properties = record {
 abbrev pub ids_of : List Piece → List FileId
 ids_of pieces = map (λ piece. piece.node.id) pieces
 
+-- what a table keeps of them
+abbrev pub rows_of : List Piece → List Placed
+rows_of pieces = map (λ piece. placed_of piece.node) pieces
+
 -- the text of a file's predecessor, with its line, where that is a file
 abbrev pub text_of_before : Option (NodeRev × Placed) → Option Before
 text_of_before predecessor =
@@ -231,6 +235,6 @@ properties_of node predecessor =
     brings (properties_dump (arc_value node.properties))
     (option_map (λ before. (dump_before before, properties_kept before)) predecessor)
 
--- a node revision is written behind these bytes, and has this id
-abbrev pub Writes : List ℕ → Piece → FileId → List ℕ → Type 0
-Writes out piece id new = (id ≡ piece.node.id) × (new ≡ out ++ piece_bytes piece)
+-- a node revision is written behind these bytes, with these lines
+abbrev pub Writes : List ℕ → Piece → FileNode → List ℕ → Type 0
+Writes out piece lines new = (lines ≡ piece.node) × (new ≡ out ++ piece_bytes piece)

@@ -1,17 +1,18 @@
 //! The ids that node revisions get: of their nodes, and of the copies that they are of.
-ghost use Rattle.std.specs.{Prelude.{◌≡◌, ◌≤◌, ◌-◌, IfOk, length, map, option_and_then, option_copied, option_map, reverse}, List.Sorted.IsStrictlySortedBy, Map.keys_of};
+ghost use Rattle.std.specs.{Prelude.{◌≡◌, ◌≤◌, ◌-◌, Contains, Decides, IfOk, length, map, option_and_then, option_copied, option_map, reverse}, List.Sorted.IsStrictlySortedBy, Map.keys_of};
 ghost use Rattle.svnpath.specs.Paths.{path_cmp};
-ghost use Rattle.noderevs.specs.Held.{node_at};
+ghost use Rattle.revision_data.specs.Found.{found};
+ghost use Rattle.noderevs.specs.{Held.node_at, declared.node_rev.NodeRev.NodeRev};
 ghost use Rattle.filed_trees.specs.Tables.{placed_in};
-ghost use Rattle.filed_writing.specs.{Drafts.{came_from, comes_of, copy_from}, Layout.{all_come, comes, copies_of, copy_of, known_from, made_from, next_after, next_after_all, nodes_of, place_above}, Pieces.{begins, copied, with_both}, Trails.IsTrail};
+ghost use Rattle.filed_writing.specs.{Blocks.IsRightHere, Drafts.{came_from, comes_of, copy_from}, Layout.{all_come, comes, copies_of, copy_of, known_from, made_from, next_after, next_after_all, nodes_of, place_above}, Pieces.{begins, copied, with_both}, Trails.IsTrail};
 
 use crate::counter::{Counter, taken};
 use crate::revision::{Revision, puts};
+use crate::rules::properties_fit;
 use crate::text::text_of;
 use crate::trail::Trail;
 use filed_trees::Placed;
 use fsfs_ids::{IdPart, Place};
-use next_blocks::change_of;
 use noderevs::{NodeId, NodeRev};
 use repo_api::{Change, Source};
 use std::alloc::{AllocError, Global};
@@ -93,10 +94,11 @@ impl<'a> Revision<'a> {
         self,
         node: &NodeRev,
         predecessor: Option<Predecessor<'a>>,
+        change: Option<&'a Change>,
         next: &mut Counter,
     ) -> Origin<'a>
-        requires sorted { IsStrictlySortedBy path_cmp (keys_of self.changes.now) }
         requires made { option_map came_from predecessor ≡ made_from self node.now }
+        requires change { option_copied change ≡ found self.changes.now node.now.path }
         ensures comes { comes_of result ≡ comes self.entry node.now next.old }
         ensures next { next.new ≡ next_after self.entry node.now next.old }
     {
@@ -104,7 +106,7 @@ impl<'a> Revision<'a> {
             Some(before) => before.placed.id().node,
             None => taken(next.revision, &mut next.node),
         };
-        let copy = match copied(change_of(self.changes, node.path.components())) {
+        let copy = match copied(change) {
             Some(source) => Some(NewCopy {
                 id: taken(next.revision, &mut next.copy),
                 source,
@@ -118,19 +120,40 @@ impl<'a> Revision<'a> {
         }
     }
 
-    /// Says of each node revision of this revision what it was made from, in their order.
+    /// Says whether a node keeps the rules, by what it was made from and by the change of its path.
+    fn is_right_here(
+        self,
+        node: &NodeRev,
+        predecessor: Option<Predecessor<'a>>,
+        change: Option<&Change>,
+    ) -> bool
+        requires made { option_map came_from predecessor ≡ made_from self node.now }
+        requires change { option_copied change ≡ found self.changes.now node.now.path }
+        ensures { Decides result (IsRightHere self.entry node.now) }
+    {
+        properties_fit(&node.properties) && self.has_right_own(node, change.is_some(), predecessor)
+    }
+
+    /// Says of each node revision of this revision what it was made from, in their order. A node that does not keep the
+    /// rules, of which no commit makes one, is not written.
     pub fn origins(self, alloc: Global, next: &mut Counter) -> Result<Vec<Origin<'a>>, AllocError>
         requires { IsStrictlySortedBy path_cmp (keys_of self.changes.now) }
         ensures all { IfOk result (λ origins. map comes_of origins.items
             ≡ all_come self.entry (nodes_of self.entry) next.old) }
         ensures next { IfOk result (λ _. next.new
             ≡ next_after_all self.entry (nodes_of self.entry) next.old) }
+        ensures right { IfOk result (λ _. (node : NodeRev) → Contains (nodes_of self.entry) node
+            → IsRightHere self.entry node) }
     {
         let mut trail = Trail::new(alloc);
         let mut origins = Vec::new(alloc);
         while let Some(node) = self.node_here(origins.len() as u64) {
             let predecessor = self.made_from(node, &mut trail)?;
-            origins.push(self.origin(node, predecessor, next))?;
+            let change = trail.change_at(self, node.path.components());
+            if !self.is_right_here(node, predecessor, change) {
+                return Err(AllocError);
+            }
+            origins.push(self.origin(node, predecessor, change, next))?;
         }
         Ok(origins)
     }

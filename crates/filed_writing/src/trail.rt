@@ -1,25 +1,32 @@
 //! The way to a node, and what each node on it is made from.
-ghost use Rattle.std.specs.{Prelude.{◌≡◌, ◌≤◌, ◌+◌, length, take, IfOk, Decides}, List.Sorted.IsStrictlySortedBy, Map.keys_of};
+ghost use Rattle.std.specs.{Prelude.{◌≡◌, ◌≤◌, ◌+◌, length, option_copied, take, IfOk, Decides}, List.Sorted.IsStrictlySortedBy, Map.keys_of};
 ghost use Rattle.svnpath.specs.Paths.{path_cmp};
+ghost use Rattle.revision_data.specs.Found.{found};
 ghost use Rattle.filed_writing.specs.{Origins.deleted_at, Trails.{IsTrail, made_at}, declared.revision.Revision.Revision};
 
+use crate::finding::change_near;
 use crate::origin::{put_by, root_before};
 use crate::revision::Revision;
 use byte_string::ByteString;
-use next_blocks::change_of;
 use noderevs::NodeId;
+use repo_api::Change;
 use std::alloc::{AllocError, Global};
 
 /// Remembers what the node at the last path, and each above it, is made from, so that the next path is followed from
-/// where it leaves the last one.
+/// where it leaves the last one; and at which place among the changes that of the next path is likely.
 pub struct Trail<'a> {
     path: &'a [ByteString],
     ids: Vec<Option<NodeId>>,
+    likely: usize,
 }
 
 impl Drop for Trail<'_> {
     fn drop(self) {
-        let Trail { path: _, ids } = self;
+        let Trail {
+            path: _,
+            ids,
+            likely: _,
+        } = self;
         std::mem::drop(ids);
     }
 }
@@ -53,6 +60,7 @@ impl<'a> Trail<'a> {
         Trail {
             path,
             ids: Vec::new(alloc),
+            likely: 0,
         }
     }
 
@@ -79,11 +87,8 @@ impl<'a> Trail<'a> {
             Some(above) => revision.nodes.kid(self.ids[above], &self.path[above]),
             None => root_before(revision.nodes, revision.number as u64),
         };
-        put_by(
-            revision.nodes,
-            change_of(revision.changes, &self.path[..depth]),
-            kept,
-        )
+        let (change, _) = change_near(revision.changes, self.likely, &self.path[..depth]);
+        put_by(revision.nodes, change, kept)
     }
 
     /// Finds the node that the one at a path of a revision is made from, by the changes of the revision in the order of
@@ -104,6 +109,17 @@ impl<'a> Trail<'a> {
             self.ids.push(next)?;
         }
         Ok(self.ids[path.len()])
+    }
+
+    /// Finds the change of a path, and remembers the place behind it.
+    pub fn change_at(&mut self, revision: Revision<'a>, path: &[ByteString]) -> Option<&'a Change>
+        requires sorted { IsStrictlySortedBy path_cmp (keys_of revision.changes.now) }
+        ensures trail { (r : Revision) → IsTrail r self.old → IsTrail r self.new }
+        ensures found { option_copied result ≡ found revision.entry.changes.now path.now }
+    {
+        let (change, likely) = change_near(revision.changes, self.likely, path);
+        self.likely = likely;
+        change
     }
 
     /// Finds the node that a deletion at a path took away.

@@ -13,4 +13,4 @@ pub use current::{Current, NextIds, append_current, read_current};
 pub use identity::{append_uuid, read_uuid};
 pub use laws::a_current_is_read_again;
 pub use locks::{read_locks, write_locks};
-pub use properties::{read_properties, write_properties};
+pub use properties::{are_properties, read_properties, write_properties};

@@ -29,7 +29,7 @@ fn is_property(name: &[u8], value: &[u8]) -> bool
 }
 
 /// Says whether all names and all values are within their limits.
-fn are_properties(rows: &Properties) -> bool
+pub fn are_properties(rows: &Properties) -> bool
     ensures { result ≡ list_all is_property rows.now }
 {
     for (name, value) in rows.iter() {

@@ -1,5 +1,5 @@
 -- What a save leaves.
-use Rattle.std.proofs.Common.{lit<, ◌≡◌, ◌<◌, ℕ, Bool, true, false, true≢false, List, [], ◌∷◌, ◌++◌, length, Option, Some, None, ◌∙◌, refl, sym, ap, subst}
+use Rattle.std.proofs.Common.{lit<, ◌≡◌, ◌<◌, ℕ, Bool, true, false, true≢false, List, [], ◌∷◌, ◌++◌, length, None, ◌∙◌, refl, sym, ap, subst}
 use Rattle.repo_api.specs.{Accepted.{Accepted, changed, IsAccepted}, Soundness.AreSound, States.RepoState}
 use Rattle.access.specs.{Changing.{IsFailure, IsHalt}, Points.HasRisen}
 use Rattle.published.specs.{Edition.{Edition, edition_after}, Events.{Event, IsHistory, Told, knowing, moment_of, own_in, point_of, state_of, told, told_by, told_in}}

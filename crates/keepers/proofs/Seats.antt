@@ -1,5 +1,5 @@
 -- Seats, one after another, each with the next number.
-use Rattle.std.proofs.Common.{◌≡◌, ◌⊎◌, inl, inr, ℕ, zero, suc, ◌+◌, List, [], ◌∷◌, ◌++◌, length, Some, slice_get, refl, sym, ap, subst, ◌∙◌, arith, ⊎_elim}
+use Rattle.std.proofs.Common.{◌≡◌, ◌⊎◌, inl, inr, ℕ, zero, suc, ◌+◌, List, [], ◌∷◌, ◌++◌, length, Some, slice_get, refl, sym, ap, ◌∙◌, ⊎_elim}
 use Rattle.published.specs.Events.{Event, Known, knowing}
 
 get_more : {A : Type 0} (xs : List A) (x : A) (n : ℕ) (s : A) → slice_get (xs ++ x ∷ []) n ≡ Some s

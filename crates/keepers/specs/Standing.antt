@@ -1,5 +1,5 @@
 -- How a keeper stands between calls, as contracts see it.
-use Rattle.std.specs.Prelude.{◌≡◌, ◌<◌, ◌^◌, ℕ, List, [], ◌∷◌, true, false, length, slice_get, Option, Some, None, Result, Ok, Err, Vec}
+use Rattle.std.specs.Prelude.{◌≡◌, ◌<◌, ◌^◌, ℕ, List, [], ◌∷◌, true, false, length, slice_get, Some, Result, Ok, Err, Vec}
 use mathlib.Core.List.{IsPrefix}
 use Rattle.stops.specs.Calls.{AreCalls, CallLeaves}
 use Rattle.std.specs.declared.alloc.Global.{Global}

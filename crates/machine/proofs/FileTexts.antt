@@ -1,12 +1,12 @@
 -- Each text follows from the one before.
-use Rattle.std.proofs.Common.{◌≡◌, ◌≤◌, ℕ, Bool, true, false, List, [], ◌∷◌, length, map, Option, Some, None, refl, sym, ap, ◌∙◌}
+use Rattle.std.proofs.Common.{◌≡◌, ◌≤◌, ℕ, Bool, true, false, List, [], ◌∷◌, length, map, Option, Some, None, refl, ap, ◌∙◌}
 use Rattle.std.proofs.lemmas.Bool.{false≢true}
 use Rattle.std.specs.{Prelude.Ok, List.concat}
 use Rattle.svnpath.specs.PathLaws.{same_component_is}
 use Rattle.svndiff0.specs.{Document.document_text, Window.limit}
 use Rattle.repo_api.specs.{Kinds.text_at, Properties.is_same_value, States.RepoState}
 use Rattle.traces.specs.declared.place.Place.{Place}
-use Rattle.wire_replies.specs.{declared.reply.Reply.TheVariants.Chunk}
+use Rattle.wire_replies.specs.declared.reply.Reply.TheVariants.{Chunk}
 use Rattle.wire_deltas.specs.Deltas.{delta_chunks}
 use Rattle.wire_deltas.proofs.Given.{given}
 use Rattle.machine.specs.{FileTexts.{chunk_bytes, Follows, FollowInTurn, text_after}, Histories.{delta_told, has_text_of, text_before, text_or_empty}}

@@ -1,5 +1,5 @@
 -- An edit rests on revisions that stay.
-use Rattle.std.proofs.Common.{◌≡◌, inl, inr, ℕ, List, [], ◌∷◌, ◌++◌, Bool, true, false, Option, Some, None, refl, sym, ap, subst, ◌∙◌, append-nil, append_assoc}
+use Rattle.std.proofs.Common.{◌≡◌, List, [], ◌∷◌, ◌++◌, Bool, true, false, Option, Some, None, refl, sym, ap, subst, ◌∙◌, append-nil, append_assoc}
 use Rattle.std.specs.Prelude.{Result, Ok, Err, if◌then◌else◌}
 use Rattle.refusals.specs.declared.Refusal.{Refusal}
 use Rattle.repo_api.specs.{Accepted.{Accepted, changed, changed_all}, Accepted.Accepted.{ChangesProperty, Commits, Locks, Releases, Unlocks}}
@@ -12,10 +12,10 @@ use Rattle.wire_edits.specs.declared.editing.EditorCommand.TheVariants.{TextDelt
 use Rattle.wire_forms.specs.{declared.fault.CommandFault.CommandFault, declared.fault.CommandFault.TheVariants.{UnknownName, BadParameters, NoMemory}}
 use Rattle.edit_rules.specs.{Editor.{Applies, Edits as EditsTxn, finished, RestsIn, RestsOn}, Edits.EditState, Refusing.edit_refusal, Tokens.Tokens}
 use Rattle.access.specs.{Changing.unchanged_content, Points.{AccessRules, content_of, Point}}
-use Rattle.machine.specs.{Settings.Settings, Stages.{Stage, EditRests, StandsOn}, Soundness.MeetBy, Hearing.Input, Hearing.Input.{Whole, Broken}}
-use Rattle.machine.specs.{Answers.{Verdict, Effect, Answer, Step, content_after}, Machine.{InputStep, UnreleasedStep, MachineEdit, JudgedEdit, CommitStep}}
+use Rattle.machine.specs.{Settings.Settings, Stages.{Stage, EditRests, StandsOn}, Hearing.Input, Hearing.Input.{Whole, Broken}}
+use Rattle.machine.specs.{Answers.{Verdict, Effect, Answer, Step, content_after}, Machine.{InputStep, MachineEdit, JudgedEdit, CommitStep}}
 use Rattle.machine.specs.Machine.{CloseStep, CommandStep, EditingStep, ending_of, commit_ask, release_fails, CommittedStep}
-use Rattle.machine.specs.{Answers.Verdict.{Written, NotWritten, Unknown}, Steps.{StepAt, StepWritten, StepOrPart, AddsAll, Stores, EffectAt}}
+use Rattle.machine.specs.{Answers.Verdict.{Written, NotWritten, Unknown}, Steps.{StepAt, AddsAll, Stores, EffectAt}}
 use Rattle.machine.specs.{declared.commit_parameters.CommitParameters.CommitParameters, declared.env.Env.Env, declared.ending.Ending.Ending}
 use Rattle.machine.specs.declared.ending.Ending.TheVariants.{Commits as ToCommit, GivesUp}
 use Rattle.machine.specs.declared.phase.Phase.TheVariants.{Greeted, LoggingIn, Challenged, Serving, Editing, Skipping, Reporting, Driven, Ended}

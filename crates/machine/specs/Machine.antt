@@ -216,13 +216,16 @@ EditingStep known env edit (Err BadParameters) = Always (malformed env)
 EditingStep known env edit (Err NoMemory) = Always (malformed env)
 
 -- under a premise that says more, a command within an edit does no other thing
-judged_weaker : {stronger weaker : Type 0} → (weaker → stronger) → (env : Env) (c : RepoState) (edit : MachineEdit) (command : EditorCommand) (r : Option Refusal)
-    (a : Answer) → JudgedEdit stronger env c edit command r a → JudgedEdit weaker env c edit command r a
+judged_weaker : {stronger weaker : Type 0} → (weaker → stronger) → (env : Env) (c : RepoState)
+    (edit : MachineEdit) (command : EditorCommand) (r : Option Refusal) (a : Answer)
+    → JudgedEdit stronger env c edit command r a → JudgedEdit weaker env c edit command r a
 judged_weaker f env c edit command None a (after, applies, is) = (after, applies_weaker f c edit.editor command after applies, is)
 judged_weaker f env c edit command (Some r) a is = is
 
-command_weaker : {stronger weaker : Type 0} → (weaker → stronger) → (env : Env) (edit : MachineEdit) (command : EditorCommand) (ending : Option Ending)
-    (halted : Bool) (c : RepoState) (a : Answer) → CommandStep stronger env edit command ending halted c a → CommandStep weaker env edit command ending halted c a
+command_weaker : {stronger weaker : Type 0} → (weaker → stronger) → (env : Env) (edit : MachineEdit)
+    (command : EditorCommand) (ending : Option Ending) (halted : Bool) (c : RepoState) (a : Answer)
+    → CommandStep stronger env edit command ending halted c a
+    → CommandStep weaker env edit command ending halted c a
 command_weaker f env edit command None halted c a step = judged_weaker f env c edit command (edit_refusal c edit.editor command) a step
 command_weaker f env edit command (Some Commits) halted c a step = step
 command_weaker f env edit command (Some GivesUp) halted c a step = step

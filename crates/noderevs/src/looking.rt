@@ -21,7 +21,7 @@ impl Nodes {
     }
 
     /// Finds the block of a revision.
-    fn block(&self, revision: u64) -> Option<&Block>
+    pub fn block(&self, revision: u64) -> Option<&Block>
         ensures { option_copied result ≡ slice_get (blocks_of self.now) revision }
     {
         self.blocks.get(revision as usize)

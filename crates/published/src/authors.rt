@@ -1,7 +1,7 @@
 //! Who makes changes, and how the history grows.
 ghost use Rattle.std.specs.Prelude.{◌≡◌, ◌<◌, ◌+◌, ◌^◌, ◌∷◌, ◌++◌, [], ℕ, true, false, length, slice_index_or, IfOk, IfSome, MatchBool};
 ghost use mathlib.Core.List.{IsPrefix};
-ghost use Rattle.access.specs.Points.{HasRisen, last_count};
+ghost use Rattle.access.specs.Points.{HasRisen};
 ghost use Rattle.published.specs.{Authors.{roll, GrowsBy}, Changes.IsRight, Files.{Agrees, MayOpen}, Moments.GoesOn};
 ghost use Rattle.published.specs.Events.{IsHistory, IsLonger, Known, accepted_by, count_in, knowing, own_in, point_of, state_of, told_in};
 ghost use Rattle.published.specs.Events.Event.{Fails, Makes, Opened};

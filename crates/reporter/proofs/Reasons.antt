@@ -1,5 +1,5 @@
 -- Why an entry is named, and that nothing is said where there is no reason.
-use Rattle.std.proofs.Common.{arith, ◌≡◌, ◌<◌, ◌+◌, ℕ, Bool, true, false, ◌||◌, not, List, [], ◌∷◌, ◌++◌, length, get_or, map, take, Option, Some, None, refl}
+use Rattle.std.proofs.Common.{arith, ◌≡◌, ◌<◌, ◌+◌, ℕ, Bool, true, false, ◌||◌, not, List, [], ◌∷◌, ◌++◌, length, get_or, take, Option, Some, None, refl}
 use Rattle.std.proofs.{Common.{drop, sym, ap, ◌∙◌, subst, inl, inr, ⊎_elim, if◌then◌else◌, MatchBool}, lemmas.Bool.false≢true}
 use Rattle.std.proofs.lemmas.List.{length-append, map_more}
 use Rattle.std.specs.Prelude.{IsSome, is_some}

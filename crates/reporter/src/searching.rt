@@ -1,6 +1,6 @@
 //! Whether a walk over two trees names anything at a path or under it.
-ghost use Rattle.std.specs.Prelude.{◌≡◌, [], false, true, IfOk, is_some, MatchBool, OnOk};
-ghost use Rattle.reporter.specs.{Knowing.{AreSilentKnown, IsKnown}, Left.{IsPlanBelow, IsSilent}, Remembered.IfRemembers, Walks.{HasReasonAt, IsSame, MayEnter}};
+ghost use Rattle.std.specs.Prelude.{◌≡◌, [], false, true, IfOk, MatchBool, OnOk};
+ghost use Rattle.reporter.specs.{Knowing.{AreSilentKnown, IsKnown}, Left.{IsSilent}, Remembered.IfRemembers, Walks.{HasReasonAt, IsSame, MayEnter}};
 
 use crate::kinds::{goes, is_added};
 use crate::known_path::KnownPath;

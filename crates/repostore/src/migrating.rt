@@ -1,8 +1,8 @@
 //! The files of a repository copied into another store.
 ghost use Rattle.std.specs.Prelude.{◌≡◌, ◌⊎◌, ◌+◌, ◌≤◌, ◌↔◌, Option, List, ℕ, None, Some, IfOk, IsErr, IsErrOf, OnOk, length};
 ghost use Rattle.fsfs_format.specs.{Formats.layout_in, declared.format.Layout.Layout};
-ghost use Rattle.store_files.specs.{Folders.{Folder, text_of}, Moments.{HasCause, HasRisen}, Stops.LeavesOnly};
-ghost use Rattle.repostore.specs.{Files.{Files, HasFiles, reached, revision_files}, Creating.{IsFreeOrHas, IsFreeWith}, Current.count_in, Opening.OnlyReads, Saving.{Going, Stands}};
+ghost use Rattle.store_files.specs.{Folders.{Folder, text_of}, Moments.{HasCause, HasRisen}};
+ghost use Rattle.repostore.specs.{Files.{Files, HasFiles, reached, revision_files}, Creating.{IsFreeWith}, Current.count_in, Opening.OnlyReads, Saving.{Going, Stands}};
 ghost use Rattle.repostore.specs.Migrating.{HasSome, IsFree, IsStep, Makes, moved_files, moved_locks};
 
 use crate::opening::{layout_of, read_text};

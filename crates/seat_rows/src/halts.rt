@@ -81,7 +81,7 @@ fn is_noted<F: SoundTrees, S: Store, J: Naming, R: Abort + Wait>(
     let mut places = places::<F, S, J, R>(rt, alloc, stored, 1, history);
     let place = places.pop().expect(rt, "a place");
     let shared = place.shared();
-    let _told = act_in(rt, alloc, place, Act::Commit, &Marks::new());
+    let _told = act_in(rt, alloc, place, Act::Commit, &Marks::new(alloc));
     shared.as_ref().has_halted()
 }
 

@@ -22,4 +22,6 @@ mod seats;
 #[cfg(test)]
 mod sixteen;
 #[cfg(test)]
+mod stopped;
+#[cfg(test)]
 mod stores;

@@ -5,11 +5,12 @@ ghost use Rattle.std.specs.Prelude.{◌≡◌};
 use crate::commits::{commit, youngest};
 use crate::halts::{HaltTold, told_both};
 use crate::looks::are_seen;
-use crate::properties::is_changed_by_one;
+use crate::properties::{is_changed_by_one, told_of_change};
 use crate::releases::{ReleaseTold, is_released_for_both, told_of_release};
 use crate::saves::youngest_in_save;
 use crate::seats::{Access, Place, SoundTrees, two_seats};
 use crate::sixteen::{has_all, works};
+use crate::stopped::Calls;
 use access::RepoAccess;
 use published::{Naming, NewHistory};
 use std::alloc::Global;
@@ -76,16 +77,19 @@ pub(crate) struct Marks {
     pub(crate) is_held: AtomicBool,
     /// Whether a seat was told what cannot be.
     pub(crate) is_wrong: AtomicBool,
+    /// The calls by which a commit is saved.
+    pub(crate) calls: Calls,
 }
 
 impl Marks {
     /// Makes marks of which none is set.
-    pub(crate) fn new() -> Self {
+    pub(crate) fn new(alloc: Global) -> Self {
         Marks {
             begun: AtomicBool::new(false),
             looked: AtomicBool::new(false),
             is_held: AtomicBool::new(false),
             is_wrong: AtomicBool::new(false),
+            calls: Calls::new(alloc),
         }
     }
 }
@@ -99,13 +103,16 @@ pub(crate) enum Act {
     Look,
     /// It looks while another's commit is being saved.
     LookInSave,
+    /// It asks for a property that nobody has seen yet.
+    Change,
     /// It takes its turns of those that sixteen take at once.
     Work(u8),
     /// It sees whether nothing of all turns is lost.
     HaveAll,
 }
 
-/// Gives the revision that a seat has made, or the youngest that it sees; none where it is told what cannot be.
+/// Gives the revision that a seat has made, or the youngest that it sees, or how many changes of a property it has made;
+/// none where it is told what cannot be.
 fn told_of<A: RepoAccess<View = V>, V: SoundTrees>(
     rt: &impl Abort,
     alloc: Global,
@@ -117,6 +124,7 @@ fn told_of<A: RepoAccess<View = V>, V: SoundTrees>(
         Act::Commit => return commit(rt, alloc, access).ok(),
         Act::Look => true,
         Act::LookInSave => return youngest_in_save(rt, access, marks),
+        Act::Change => return told_of_change(rt, alloc, access),
         Act::Work(letter) => works(rt, alloc, access, letter, marks),
         Act::HaveAll => has_all(rt, alloc, access),
     };

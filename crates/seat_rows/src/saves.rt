@@ -31,7 +31,7 @@ pub(crate) fn youngest_in_save<A: RepoAccess>(
 }
 
 /// Gives the youngest revisions that one seat sees while and after the other commits, in files whose replacements wait so.
-fn look_beside<S, J, R>(
+pub(crate) fn look_beside<S, J, R>(
     rt: &R,
     alloc: Global,
     stored: FolderRepository<S>,
@@ -56,7 +56,7 @@ where
 #[test]
 fn a_look_waits_for_no_save(rt: HostRuntime) {
     let alloc = rt.alloc();
-    let marks = Arc::new(alloc, Marks::new()).expect(&rt, "memory");
+    let marks = Arc::new(alloc, Marks::new(alloc)).expect(&rt, "memory");
     let others = Arc::try_clone(&marks).expect(&rt, "memory");
     let store = waiting(new_files(&rt, alloc), others);
     let seen = look_beside::<TestStore, Brand, HostRuntime>(

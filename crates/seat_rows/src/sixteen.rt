@@ -244,7 +244,7 @@ where
     R: Abort + Threads + Wait + Sync,
     requires { history.seen.book ≡ J.book }
 {
-    let marks = Marks::new();
+    let marks = Marks::new(alloc);
     let mut places = places::<FiledWorld, S, J, R>(rt, alloc, stored, SEATS + 1, history);
     let last = places.pop().expect(rt, "a place");
     work_in_threads(rt, alloc, places, &marks);

@@ -26,7 +26,8 @@ pub(crate) fn wait_for(mark: &AtomicBool) -> bool {
     false
 }
 
-/// A store whose replacements go on once the other seat has looked, where marks say that it has.
+/// A store whose replacements go on once the other seat has looked, where marks say that it has, and which notes there
+/// the calls that change files.
 pub(crate) struct WaitingStore<S: Store> {
     inner: S,
     marks: Option<Arc<Marks>>,
@@ -64,6 +65,9 @@ impl<S: Store> Store for WaitingStore<S> {
     }
 
     fn write_new(&mut self, name: FileName, bytes: &[u8]) -> Result<(), StoreFault> {
+        if let Some(marks) = &self.marks {
+            marks.calls.note(name, bytes, false);
+        }
         self.inner.write_new(name, bytes)
     }
 
@@ -71,6 +75,7 @@ impl<S: Store> Store for WaitingStore<S> {
         if let Some(marks) = &self.marks {
             marks.begun.store(true, Ordering::SeqCst);
             wait_for(&marks.looked);
+            marks.calls.note(name, bytes, true);
         }
         self.inner.replace(name, bytes)
     }

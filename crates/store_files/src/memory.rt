@@ -1,6 +1,6 @@
 //! Files in memory.
-ghost use Rattle.std.specs.Prelude.{◌≡◌, ◌<◌, [], ◌∷◌, None, OnOk, OnErr, IsErrOf, IsErr, option_copied};
-ghost use Rattle.store_files.specs.{Folders.{Folder, IsSame, nothing, with_file}, Memory.{files_of, put_events}, Names.{kind_of, shard_of, number_of}, Note.event_of, Replay.{held, Leaves}};
+ghost use Rattle.std.specs.Prelude.{◌≡◌, ◌<◌, [], ◌∷◌, None, OnOk, OnErr, option_copied};
+ghost use Rattle.store_files.specs.{Folders.{Folder, IsSame, nothing, with_file}, Memory.{files_of, put_events}, Replay.{held, Leaves}};
 
 use crate::fault::{ReplaceFault, StoreFault};
 use crate::name::FileName;

@@ -1,5 +1,5 @@
 use Rattle.std.proofs.{Common.{◌++◌, ◌∷◌, [], sym, ap, ◌∙◌, take, option_copied}, lemmas.Bool.{or_from, or_parts}, lemmas.List.Folds.list_any_more}
-use Rattle.std.specs.{List.list_any, Prelude.get_or}
+use Rattle.std.specs.List.{list_any}
 use Rattle.svnpath.specs.Paths.{is_at_or_under, same_component}
 use Rattle.repo_api.specs.Readings.{is_name_among}
 use Rattle.drive_sides.proofs.{Naming.{among_inserted, is_named, take-all}, Ungrafted.not_by}

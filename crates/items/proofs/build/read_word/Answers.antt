@@ -1,6 +1,6 @@
 -- A letter, and the bytes of a word behind it.
-use Rattle.std.proofs.Common.{◌-◌, length, take, drop, sym, ap, ◌∙◌}
-use Rattle.items.specs.{Word.IsWord, Values.word}
+use Rattle.std.proofs.Common.{◌-◌, length, take, drop, ap, ◌∙◌}
+use Rattle.items.specs.Values.{word}
 use Rattle.items.proofs.{Views.view-Word, Fronts.{all_dropped, word_of, word_read}}
 use Rattle.items.proofs.build.read_word.Goals as goal
 

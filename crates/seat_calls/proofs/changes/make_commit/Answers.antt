@@ -1,4 +1,4 @@
-use Rattle.std.proofs.Common.{◌≡◌, ℕ, ap, sym, subst, ◌∙◌, [], ◌∷◌, false}
+use Rattle.std.proofs.Common.{◌≡◌, ℕ, ap, subst, ◌∙◌, [], ◌∷◌}
 use Rattle.access.specs.Points.{Point, content_of}
 use Rattle.published.specs.{Events.Known, Moments.content_added}
 use Rattle.repo_api.specs.Accepted.Accepted.{Commits, Releases}

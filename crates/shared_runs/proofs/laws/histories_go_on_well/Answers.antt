@@ -1,5 +1,5 @@
-use Rattle.std.proofs.Common.{◌≡◌, List, [], ◌++◌, sym, subst, ◌∙◌}
-use Rattle.repo_api.specs.{Accepted.{Accepted, changed_all}, States.{IsBeginning, RepoState}}
+use Rattle.std.proofs.Common.{◌≡◌, [], ◌++◌, sym, subst, ◌∙◌}
+use Rattle.repo_api.specs.{Accepted.{changed_all}, States.{IsBeginning, RepoState}}
 use Rattle.published.specs.{Events.{changes_in, first_in, state_of}, Moments.changed_more}
 use Rattle.published.proofs.Histories.{changes_more, first_more, follow_split, history_sound, longer_yet, right_after}
 use Rattle.hub_runs.proofs.Staying.{changes_keep, others_kept}

@@ -1,6 +1,6 @@
 use Rattle.std.proofs.Common.{List, ◌∷◌, ◌++◌, [], ap, sym, subst, ◌∙◌}
 use Rattle.repo_api.specs.States.{RepoState}
-use Rattle.published.specs.{Events.{Event, accepted_by, state_of}, Files.Kept}
+use Rattle.published.specs.Events.{Event, accepted_by, state_of}
 use Rattle.published.proofs.Histories.{state_still}
 use Rattle.archives.specs.Publishing.{BothContain}
 use Rattle.archives.proofs.publisher.Publisher.show_failure.Goals as goal

@@ -1,8 +1,8 @@
-use Rattle.std.proofs.Common.{◌≡◌, ◌++◌, ◌∷◌, [], List, Some, None, map, length, ap, sym, arith, rules, ◌∙◌}
+use Rattle.std.proofs.Common.{◌≡◌, ◌++◌, ◌∷◌, [], List, Some, None, true, map, length, ap, sym, arith, rules, ◌∙◌}
 use Rattle.std.proofs.lemmas.List.{append-nil}
 use Rattle.noderevs.specs.declared.node_rev.NodeRev.{NodeRev}
 use Rattle.filed_writing.specs.{Drafts.comes_of, Layout.{all_come, next_after_all, node_here}}
-use Rattle.filed_writing.proofs.Places.{left, one_comes, one_later, past_all}
+use Rattle.filed_writing.proofs.Places.{all_right, left, one_comes, one_later, one_right, past_all}
 use Rattle.filed_writing.proofs.revision.Revision.origins.Goals as goal
 
 pub made_from-requires-clause-trail : goal.made_from-requires-clause-trail
@@ -25,10 +25,12 @@ loop-node-preserved c =
     let next = c.loop-node.next in
     let after = c.origin.new.next in
     let there : node_here r (length origins) ≡ Some node = search rules in
+    let yes : c.is_right_here.result ≡ true = search rules in
     let grown : now ≡ origins ++ o ∷ [] = c.in_ok-push.ensures.items in (
       one_comes r origins now o node next after there grown c.origin.ensures.next c.origin.ensures.comes ∙ c.loop-node.invariant.0,
       one_later r origins now o node next after there grown c.origin.ensures.next ∙ c.loop-node.invariant.1,
-      c.made_from.ensures.trail,
+      c.change_at-change.ensures.trail c.args.self c.made_from.ensures.trail,
+      one_right r origins now o node next after there grown c.origin.ensures.next c.loop-node.invariant.3 (c.is_right_here.ensures.0 yes),
     )
 
 pub returns-clause-all : goal.returns-clause-all
@@ -47,3 +49,8 @@ returns-clause-next c =
     let none : node_here r (length origins) ≡ None = search rules in
     ap (λ (ns : List NodeRev). next_after_all r ns c.loop-node.next) (sym (past_all r (length origins) none))
     ∙ c.loop-node.invariant.1
+
+pub returns-clause-right : goal.returns-clause-right
+returns-clause-right c node among =
+    let none : node_here c.args.self (length c.loop-node.origins.items) ≡ None = search rules in
+    all_right c.args.self c.loop-node.origins.items none c.loop-node.invariant.3 node among

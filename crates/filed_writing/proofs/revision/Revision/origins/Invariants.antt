@@ -1,6 +1,7 @@
--- What those so far and those that are left make is what all make, and the way to the last one is known.
-use Rattle.std.proofs.Common.{◌≡◌, ◌-◌, ◌++◌, map, length, drop}
-use Rattle.filed_writing.specs.{Drafts.comes_of, Layout.{all_come, next_after_all, nodes_of}, Trails.IsTrail}
+-- What those so far and those that are left make is what all make, the way to the last one is known,
+-- and those so far keep the rules.
+use Rattle.std.proofs.Common.{◌≡◌, ◌-◌, ◌++◌, All, map, length, drop, take}
+use Rattle.filed_writing.specs.{Blocks.IsRightHere, Drafts.comes_of, Layout.{all_come, next_after_all, nodes_of}, Trails.IsTrail}
 use Rattle.filed_writing.proofs.revision.Revision.origins.Given as goal
 
 abbrev pub invariant-loop-node : goal.invariant-loop-node
@@ -10,6 +11,7 @@ invariant-loop-node l =
     × (next_after_all l.self (drop (length l.origins.items) (nodes_of l.self)) l.next
     ≡ next_after_all l.self (nodes_of l.self) l.fn.next)
     × IsTrail l.self l.trail
+    × All (IsRightHere l.self) (take (length l.origins.items) (nodes_of l.self))
 
 abbrev pub decreases-loop-node : goal.decreases-loop-node
 decreases-loop-node l = length (nodes_of l.self) - length l.origins.items

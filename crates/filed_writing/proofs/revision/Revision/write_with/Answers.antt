@@ -4,7 +4,7 @@ use Rattle.fsfs_nodes.specs.declared.node.FileNode.{FileNode}
 use Rattle.fsfs_writing.specs.Files.{Piece, piece_bytes}
 use Rattle.filed_writing.specs.{Bodies.{before_of, brought_by}, Drafts.{came_from, comes_of, copy_from}, Layout.{lines_of, piece_of}}
 use Rattle.filed_writing.specs.Pieces.{Before, brings, dump_before, piece_by, properties_dump, properties_kept, properties_of}
-use Rattle.filed_writing.proofs.Pieces.{pair_lines}
+use Rattle.filed_writing.proofs.Pieces.{if_ok, pair_lines}
 use Rattle.filed_writing.proofs.revision.Revision.write_with.Goals as goal
 
 pub returns : goal.returns
@@ -21,10 +21,11 @@ returns c =
     let lines = c.in_ok-lines.lines in
     let lines_are : lines ≡ lines_of c.args.self c.args.draft.node.now (comes_of c.args.draft.origin) (copy_from c.args.draft.root) = c.in_ok-lines.ensures in
     let made : Piece = piece_by (length out) lines text new in
-    let node_is : c.in_ok-node.node ≡ made.node = c.in_ok-node.ensures.0 in
     let piece : made ≡ piece_of c.args.self (length out) c.args.draft.node.now (comes_of c.args.draft.origin) (copy_from c.args.draft.root) text =
-    λ i. piece_by (length out) (lines_are i) text (properties i) in (
-      ap (λ (n : FileNode). n.id) node_is ∙ ap (λ (p : Piece). p.node.id) piece,
-      c.in_ok-node.ensures.1 ∙ ap (λ (n : FileNode). out ++ piece_bytes (record { text = text.new; properties = new.new; node = n })) node_is
+    λ i. piece_by (length out) (lines_are i) text (properties i) in
+    if_ok c.write_node.result (λ node is.
+    let node_is : node ≡ made.node = is.0 in (
+      node_is ∙ ap (λ (p : Piece). p.node) piece,
+      is.1 ∙ ap (λ (n : FileNode). out ++ piece_bytes (record { text = text.new; properties = new.new; node = n })) node_is
           ∙ ap (λ (p : Piece). out ++ piece_bytes p) piece,
-    )
+    )) c.write_node.ensures

@@ -19,7 +19,7 @@ returns c =
     let kept = c.match-checked_sub.kept in
     let depth : c.len-depth.result ≡ length ids = omega (arith, c.len-depth.ensures, c.args.self.now.ids.ok.0) in
     let put : c.put_by.result ≡ put_by nodes (found changes (take (length ids) path)) kept =
-    c.put_by.ensures ∙ ap (λ o. put_by nodes o kept) (c.change_of.ensures c.requires.sorted)
+    c.put_by.ensures ∙ ap (λ o. put_by nodes o kept) (c.change_near.ensures c.requires.sorted)
     ∙ ap (λ d. put_by nodes (found changes (take d path)) kept) depth in
     elim c.match-checked_sub.branch [
       | in-Some w ↦

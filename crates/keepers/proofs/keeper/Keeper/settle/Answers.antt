@@ -1,7 +1,7 @@
 use Rattle.std.proofs.Common.{◌≡◌, ℕ, ◌∷◌, ◌++◌, [], List, true, false, true≢false, Err, refl, ap, sym, subst, ◌∙◌}
-use Rattle.access.specs.{Changing.{IsFailure, IsHalt}, Points.{HasRisen, Point}}
-use Rattle.repo_api.specs.{Accepted.{Accepted, IsAccepted}, States.RepoState}
-use Rattle.published.specs.{Changes.IsRight, Edition.Edition, Events.{Event, Known, accepted_by, knowing, point_of, state_of, told_in}, Events.Event.{Fails, Makes}, Files.{Agrees, Kept}, Moments.added}
+use Rattle.access.specs.{Changing.{IsFailure, IsHalt}, Points.{HasRisen}}
+use Rattle.repo_api.specs.States.{RepoState}
+use Rattle.published.specs.{Changes.IsRight, Events.{Event, Known, accepted_by, knowing, point_of, state_of, told_in}, Events.Event.{Fails, Makes}, Files.{Agrees}, Moments.added}
 use Rattle.published.proofs.Histories.{next_state, state_more, state_still}
 use Rattle.archives.specs.{Archives.{IsNext, SaveLeaves}, Publishing.BothContain, declared.archive.SaveFault.SaveFault, declared.archive.SaveFault.TheVariants.{Device, Halted, NoMemory}}
 use Rattle.keepers.specs.Standing.{Standing, standing, IsSteady, StopLeaves, now_of}

@@ -1,6 +1,6 @@
 -- What has to be known of the nodes and the changes of a revision for its file to say them. All of
 -- it can be decided from the nodes in memory.
-use Rattle.std.specs.Prelude.{◌≡◌, true, List, Option, Some, None, Contains, IfSome, is_some, if◌then◌else◌}
+use Rattle.std.specs.Prelude.{◌≡◌, ◌<◌, true, List, Option, Some, None, Contains, IfSome, is_some, if◌then◌else◌}
 use Rattle.std.specs.{Arc.arc_value, Cmp.Lexicographic.slice_cmp, List.list_all, List.Sorted.IsStrictlySortedBy, Map.keys_of, Ordering.nat_cmp}
 use Rattle.svnpath.specs.Components.{IsRightPath}
 use Rattle.repo_api.specs.{Histories.Changed, Properties.PropertyList, declared.entry.Mark.Mark, declared.entry.Mark.TheVariants.Made}
@@ -47,3 +47,8 @@ pub record IsRightHere (r : Revision) (node : NodeRev) : Type 0 where
 pub record IsRightBlock (r : Revision) : Type 0 where
   pub nodes : (node : NodeRev) → Contains (nodes_of r) node → IsRightHere r node
   pub changes : AreRightChanges r.changes.now
+
+-- each copy is of an earlier revision: an edit can name no other, since there is none yet
+abbrev pub SourcesAreEarlier : Revision → Type 0
+SourcesAreEarlier r = (change : Changed) → Contains r.changes.now change
+    → IfSome change.1.source (λ source. source.revision < r.number)
