@@ -6,7 +6,7 @@ ghost use Rattle.drive_news.specs.Parts.{last_changes, revision_property, stale_
 
 use crate::news::PropertyChanges;
 use byte_string::ByteString;
-use repo_api::Repository;
+use repo_api::{PropertyValue, Repository};
 use sequence::Sequence;
 use std::alloc::{AllocError, Global};
 use wire_forms::copy_optional;
@@ -45,8 +45,22 @@ fn with_change(
         more ≡ changes ++ (name.now, value) ∷ [])) }
 {
     let mut changes = changes;
-    changes.push((ByteString::from_slice(alloc, name)?, made?))?;
+    let name = ByteString::from_slice(alloc, name)?;
+    changes.push((name, value_of(alloc, made)?))?;
     Ok(changes)
+}
+
+/// Makes a value of these bytes, if there are any and they were made.
+fn value_of(
+    alloc: Global,
+    made: Result<Option<ByteString>, AllocError>,
+) -> Result<Option<PropertyValue>, AllocError>
+    ensures { IfOk result (λ value. IsOkAnd made (λ bytes. value ≡ bytes)) }
+{
+    match made? {
+        None => Ok(None),
+        Some(bytes) => Ok(Some(PropertyValue::new(alloc, bytes)?)),
+    }
 }
 
 /// Gives the changes, and then that the client's token is taken out, if it is stale.

@@ -1,7 +1,7 @@
 //! What an entry is told of itself.
 use byte_string::ByteString;
 use drive_reports::Purpose;
-use repo_api::FileText;
+use repo_api::{FileText, PropertyValue};
 use sequence::Sequence;
 use svnpath::Path;
 
@@ -31,7 +31,7 @@ pub struct Sight<'a> {
 }
 
 /// Names of properties, each with its value, or with none where it is taken out.
-pub type PropertyChanges = Sequence<(ByteString, Option<ByteString>)>;
+pub type PropertyChanges = Sequence<(ByteString, Option<PropertyValue>)>;
 
 /// What an entry is told of itself: properties, and its text, if it is told.
 #[derive(Drop)]

@@ -8,7 +8,6 @@ use byte_string::ByteString;
 use repo_api::{Properties, is_same_value};
 use sequence::Sequence;
 use std::alloc::{AllocError, Global};
-use wire_forms::copy_optional;
 
 /// Says whether the name is that of an entry property.
 fn is_entry_property(name: &[u8]) -> bool
@@ -28,11 +27,7 @@ fn is_told(old: &Properties, new: &Properties, name: &ByteString) -> bool
 fn in_both(old: &Properties, new: &Properties) -> Result<Properties, AllocError>
     ensures { IfOk result (λ both. map (λ p. p.0) both ≡ names_in_both old.now new.now) }
 {
-    let mut both = old.clone()?;
-    for (name, value) in new.iter() {
-        both.set(name.clone()?, value.clone()?)?;
-    }
-    Ok(both)
+    old.with_all(new)
 }
 
 /// Gives the changes, and then what becomes of the properties of these names.
@@ -48,7 +43,7 @@ fn with_named(
     let mut changes = changes;
     for (name, _) in names.iter() {
         if is_told(old, new, name) {
-            changes.push((name.clone()?, copy_optional(new.get(name))?))?;
+            changes.push((name.clone()?, new.value(name)?))?;
         }
     }
     Ok(changes)

@@ -97,7 +97,7 @@ impl Grafts {
         }
     }
 
-    /// Puts a graft after the others. Memory is refused to grafts that take some 192 MiB.
+    /// Puts a graft after the others. Memory is refused to grafts that take some 128 MiB.
     pub fn push(&mut self, graft: Graft) -> Result<(), AllocError>
         requires { IsNamed graft.path }
         ensures ok { OnOk result (self.new ≡ self.old ++ graft ∷ []) }

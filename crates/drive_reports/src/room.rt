@@ -4,8 +4,8 @@ use byte_string::ByteString;
 use std::alloc::AllocError;
 use svnpath::Path;
 
-/// About how many bytes of memory the grafts of a report take at most: 192 MiB.
-const REPORT_LIMIT: usize = 201_326_592;
+/// About how many bytes of memory the grafts of a report take at most: 128 MiB.
+const REPORT_LIMIT: usize = 134_217_728;
 
 /// What a graft counts as beside its paths and its token, in bytes.
 const GRAFT: usize = 256;

@@ -12,6 +12,7 @@ use crate::texts::say_file_end;
 use byte_string::ByteString;
 use drive_news::{News, PropertyChanges};
 use drive_reports::Purpose;
+use repo_api::PropertyValue;
 use sequence::Sequence;
 use std::alloc::{AllocError, Global};
 use wire_edits::{EditorCommand, PropertyChange};
@@ -21,7 +22,7 @@ use wire_replies::ReplySink;
 fn property_command(
     is_directory: bool,
     token: &ByteString,
-    change: &(ByteString, Option<ByteString>),
+    change: &(ByteString, Option<PropertyValue>),
 ) -> Result<EditorCommand, AllocError>
     ensures { Makes result (property_command (kind_if is_directory) token.now change.now) }
 {
@@ -29,12 +30,22 @@ fn property_command(
     let change = PropertyChange {
         token: token.clone()?,
         name: name.clone()?,
-        value: value.clone()?,
+        value: bytes_of(value)?,
     };
     if is_directory {
         Ok(EditorCommand::ChangeDirectoryProperty(change))
     } else {
         Ok(EditorCommand::ChangeFileProperty(change))
+    }
+}
+
+/// Copies the bytes of a value, if there is one.
+fn bytes_of(value: &Option<PropertyValue>) -> Result<Option<ByteString>, AllocError>
+    ensures { Makes result value.now }
+{
+    match value {
+        None => Ok(None),
+        Some(value) => Ok(Some(value.bytes().clone()?)),
     }
 }
 
@@ -55,7 +66,7 @@ fn say_properties<S: ReplySink>(
 fn say_each<S: ReplySink>(
     is_directory: bool,
     token: &ByteString,
-    changes: &[(ByteString, Option<ByteString>)],
+    changes: &[(ByteString, Option<PropertyValue>)],
     out: &mut S,
 ) -> Result<(), AllocError>
     ensures { Sends result (S.writes out.old out.new)

@@ -19,6 +19,9 @@ const AWAITED_ABOVE: u32 = 2;
 
 const MOMENT_ABOVE: u32 = 5;
 
+/// In a note: what is awaited, or was before the client sent something.
+const AWAITED: u64 = 28;
+
 /// The place of a session: its number, 0 where no session has it, and its note, 0 where nothing was noted.
 #[derive(Drop)]
 struct Place {
@@ -131,13 +134,26 @@ impl Notes {
         true
     }
 
-    /// Notes that the client of a session has sent something, if the session has a place; whether it has.
-    pub(crate) fn hears(&self, session: u64) -> bool {
+    /// Notes that the client of a session has sent something, which is worked at from a moment on, if the session has a
+    /// place; whether it has.
+    pub(crate) fn hears(&self, session: u64, now: u64) -> bool {
         let Some(place) = self.own(session) else {
             return false;
         };
-        place.note.store(HAS_SENT, Ordering::SeqCst);
+        let awaited = place.note.load(Ordering::SeqCst) & AWAITED;
+        let note = now << MOMENT_ABOVE | awaited | HAS_SENT;
+        place.note.store(note, Ordering::SeqCst);
         true
+    }
+
+    /// Says whether a session has been at work on an edit for so many milliseconds, since its client has sent what is worked
+    /// at, or since that was said last. The session itself asks, and nobody else.
+    pub(crate) fn has_edited(&self, session: u64, now: u64, millis: u64) -> bool {
+        let note = self.note_of(session);
+        let is_at_work = note & (HAS_SENT | WAITS) == HAS_SENT;
+        let is_editing = is_at_work && matches!(awaited_of(note), Awaited::Edit);
+        let has_edited = is_editing && now.saturating_sub(note >> MOMENT_ABOVE) >= millis;
+        has_edited && self.hears(session, now)
     }
 
     /// Gives the note of a session, 0 where it has none.

@@ -21,6 +21,9 @@ const REFUSED_REST: u64 = 1_000;
 /// How long it is waited for the connection that wakes the thread that takes connections, in seconds.
 const WAKE_LIMIT: u64 = 1;
 
+/// For how long a session works on an edit before its client is asked for, in milliseconds.
+const ASKED_AFTER: u64 = 100;
+
 /// Knows which sessions are open, and what each awaits, and tells of them.
 pub struct Registry<'a, R> {
     rt: &'a R,
@@ -205,6 +208,13 @@ impl<'a, R: Clock + Wait> Registry<'a, R> {
         }
     }
 
+    /// Says whether a session has been at work on an edit for a while, since its client has sent what is worked at, or since
+    /// that was said last.
+    pub(crate) fn has_edited(&self, session: u64) -> bool {
+        self.notes
+            .has_edited(session, millis_now(self.rt), ASKED_AFTER)
+    }
+
     /// Notes how many clients wait for a place.
     pub(crate) fn want(&self, wanted: usize) {
         self.guests.lock(self.rt).want(wanted);
@@ -252,7 +262,7 @@ impl<'a, R: Clock + Wait> Gate for Registry<'a, R> {
     }
 
     fn pass(&self, session: u64, _piece: u64) {
-        if !self.notes.hears(session) {
+        if !self.notes.hears(session, millis_now(self.rt)) {
             self.guests.lock(self.rt).hears(session);
         }
     }

@@ -124,6 +124,13 @@ impl<'a, R: Clock + Wait> Presence for Visitor<'a, R> {
         self.connection.is_gone()
     }
 
+    fn is_gone_meanwhile(&self) -> bool {
+        match self.told {
+            Some((registry, session, _)) => registry.has_edited(session) && self.is_gone(),
+            None => false,
+        }
+    }
+
     fn notes(&self, user: Option<&ByteString>, deed: Deed<'_>) {
         let Some((registry, session, peer)) = self.told else {
             return;

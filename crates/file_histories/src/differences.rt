@@ -1,14 +1,14 @@
 //! What differs in properties.
-ghost use Rattle.std.specs.Prelude.{◌≡◌, ◌++◌, IfOk, map, option_copied};
+ghost use Rattle.std.specs.Prelude.{◌≡◌, ◌++◌, IfOk, map};
 ghost use Rattle.file_histories.specs.Differing.{differing, differing_of, is_other, names_in_both};
 
 use byte_string::ByteString;
-use repo_api::{Properties, is_same_value};
+use repo_api::{Properties, PropertyValue, is_same_value};
 use sequence::Sequence;
 use std::alloc::{AllocError, Global};
 
 /// Properties by their names, each with its value, or without one where it is gone.
-pub type DifferingProperties = Sequence<(ByteString, Option<ByteString>)>;
+pub type DifferingProperties = Sequence<(ByteString, Option<PropertyValue>)>;
 
 /// Says whether a property has another value now, or has come or gone.
 fn is_other(old: &Properties, new: &Properties, name: &ByteString) -> bool
@@ -21,21 +21,7 @@ fn is_other(old: &Properties, new: &Properties, name: &ByteString) -> bool
 fn in_both(old: &Properties, new: &Properties) -> Result<Properties, AllocError>
     ensures { IfOk result (λ both. map (λ p. p.0) both ≡ names_in_both old.now new.now) }
 {
-    let mut both = old.clone()?;
-    for (name, value) in new.iter() {
-        both.set(name.clone()?, value.clone()?)?;
-    }
-    Ok(both)
-}
-
-/// Copies a value, if there is one.
-fn copied(value: Option<&ByteString>) -> Result<Option<ByteString>, AllocError>
-    ensures { IfOk result (λ copy. copy ≡ option_copied value.entry) }
-{
-    match value {
-        None => Ok(None),
-        Some(value) => Ok(Some(value.clone()?)),
-    }
+    old.with_all(new)
 }
 
 /// Gives those of the properties of these names that differ.
@@ -51,7 +37,7 @@ fn differing_of(
     let mut found = Sequence::new(alloc);
     for (name, _) in names.iter() {
         if is_other(old, new, name) {
-            found.push((name.clone()?, copied(new.get(name))?))?;
+            found.push((name.clone()?, new.value(name)?))?;
         }
     }
     Ok(found)

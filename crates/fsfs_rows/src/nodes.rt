@@ -104,6 +104,22 @@ fn with_copy(rt: &impl Abort, alloc: Global, nodes: &Nodes) -> Nodes {
     committed(rt, alloc, nodes, tree)
 }
 
+/// Makes a revision with a copy of a directory in which a file has another text.
+fn with_changed_copy(rt: &impl Abort, alloc: Global, nodes: &Nodes) -> Nodes {
+    let mut tree = begun(rt, alloc, nodes);
+    let directory = path(rt, alloc, "/d3");
+    let source = nodes.find(youngest_root(rt, nodes), directory.components());
+    let source = source.expect(rt, "a directory");
+    let told = tree
+        .root
+        .copy(alloc, nodes, source, &path(rt, alloc, "/branch"));
+    assert!(rt; told.is_ok());
+    let (file, text) = (path(rt, alloc, "/branch/f7"), text_of(rt, alloc, b"text"));
+    let told = tree.root.set_text(alloc, nodes, &file, text);
+    assert!(rt; told.is_ok());
+    committed(rt, alloc, nodes, tree)
+}
+
 /// Counts the nodes that the youngest revision has added.
 fn added(nodes: &Nodes) -> u64 {
     let count = nodes.count();
@@ -128,6 +144,9 @@ fn a_revision_adds_a_node_for_each_path_that_it_changes(rt: HostRuntime) {
     let texts = added(&nodes);
     let nodes = with_value(&rt, alloc, &nodes, &Path::root(alloc), b"v");
     let properties = added(&nodes);
+    let nodes = with_changed_copy(&rt, alloc, &nodes);
+    let changed_copy = added(&nodes);
     let nodes = with_copy(&rt, alloc, &nodes);
-    assert!(rt; (files, texts, properties, added(&nodes)) == (1_011, 3, 1, 2));
+    assert!(rt; (files, texts, properties) == (1_011, 3, 1));
+    assert!(rt; (changed_copy, added(&nodes)) == (3, 2));
 }

@@ -12,7 +12,8 @@ use std::cell::Cell;
 use std::mem::{self, drop};
 use svnpath::Path;
 
-/// An access to a repository for a client: once it has gone, no more directories are listed, as where memory runs out.
+/// An access to a repository for a client: once it has gone, no more directories are listed, as where memory runs out, and
+/// long work that is not answered ends so.
 #[derive(Drop)]
 pub struct AttendedAccess<A, P> {
     pub access: A,
@@ -90,6 +91,9 @@ impl<A: RepoAccess + Drop, P: Presence> RepoAccess for AttendedAccess<A, P> {
     ghost counts = { A.counts };
 
     fn look(&mut self) -> Result<AttendedView<A::View, P>, AllocError> {
+        if self.client.is_gone_meanwhile() {
+            return Err(AllocError);
+        }
         let view = self.access.look()?;
         let client = self.client.share()?;
         Ok(AttendedView {

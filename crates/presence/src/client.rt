@@ -15,6 +15,12 @@ pub trait Presence: Drop {
     /// Says whether the client has gone.
     fn is_gone(&self) -> bool;
 
+    /// Says whether the client has gone, where its session has been at work for a while on something that is not answered, as
+    /// the commands of an edit. Where it has not, nobody is asked.
+    fn is_gone_meanwhile(&self) -> bool {
+        false
+    }
+
     /// Notes what the client has done, as this user, where the user is known. Nothing is noted where nothing is said of it.
     fn notes(&self, _user: Option<&ByteString>, _deed: Deed<'_>) {}
 }

@@ -43,7 +43,7 @@ module _ {X : Type 0} where
   head d None = d
   head d (Some z) = z
 
-  drop_at : (xs : List X) (i : ℕ) (x : X) → slice_get xs i ≡ Some x → drop i xs ≡ x ∷ drop (i + 1) xs
+  pub drop_at : (xs : List X) (i : ℕ) (x : X) → slice_get xs i ≡ Some x → drop i xs ≡ x ∷ drop (i + 1) xs
   drop_at [] i x is = absurd (none-some x is)
   drop_at (y ∷ xs) zero x is = ap (λ o. head y o ∷ xs) is
   drop_at (y ∷ xs) (suc i) x is = drop_at xs i x is ∙ ap (λ l. x ∷ l) (ap (λ n. drop n (y ∷ xs)) (next i))

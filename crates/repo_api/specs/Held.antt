@@ -5,9 +5,9 @@ use Rattle.repo_api.specs.{Properties.PropertyList, Rows.AreInOrder, declared.he
 -- the properties that are held
 abbrev pub list_of : Held → PropertyList
 list_of (Held.Few rows) = rows.items
-list_of (Held.Many tree) = tree.entries
+list_of (Held.Many alloc tree) = tree.entries
 
 -- the rows are in the order of their names
 abbrev pub IsInOrder : Held → Type 0
 IsInOrder (Held.Few rows) = AreInOrder rows.items
-IsInOrder (Held.Many tree) = 0 ≤ 0
+IsInOrder (Held.Many alloc tree) = 0 ≤ 0

@@ -1,5 +1,6 @@
 pub mod Texts
 pub mod Properties
+pub mod Values
 pub mod Trees
 pub mod Edits
 pub mod RightEdits

@@ -1,5 +1,5 @@
 -- Properties: the pairs of a name and a value, by the names' bytes.
-use Rattle.std.specs.{Prelude.{ℕ, ◌==◌, Bool, true, false, List, Option, Some, None}, BTreeMap.{insert_entry, is_at}, Map.{lookup, remove_entry}}
+use Rattle.std.specs.{Prelude.{ℕ, ◌==◌, Bool, true, false, List, Option, Some, None, fold}, BTreeMap.{insert_entry, is_at}, Map.{lookup, remove_entry}}
 use Rattle.std.specs.{Cmp.Lexicographic.{slice_cmp, pointwise}, Ordering.nat_cmp}
 
 abbrev pub PropertyList : Type 0
@@ -7,6 +7,10 @@ PropertyList = List (List ℕ × List ℕ)
 
 abbrev pub with_property : PropertyList → List ℕ → List ℕ → PropertyList
 with_property = insert_entry (slice_cmp nat_cmp)
+
+-- the properties, with the values of others where both have one of a name
+abbrev pub with_properties : PropertyList → PropertyList → PropertyList
+with_properties ps others = fold (λ qs p. with_property qs p.0 p.1) ps others
 
 abbrev pub without_property : PropertyList → List ℕ → PropertyList
 without_property ps name = remove_entry (is_at (slice_cmp nat_cmp name)) ps

@@ -19,6 +19,7 @@ mod property_ask;
 mod property_rows;
 mod repository;
 mod rows;
+mod values;
 
 pub use ask::CommitAsk;
 pub use change::{Action, Change, Source};
@@ -35,3 +36,4 @@ pub use properties::{Properties, is_same_value};
 pub use property_ask::{PreviousValue, PropertyAsk};
 pub use property_rows::PropertyRows;
 pub use repository::Repository;
+pub use values::PropertyValue;

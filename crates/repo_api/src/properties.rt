@@ -1,9 +1,10 @@
 //! Properties by name.
-ghost use Rattle.std.specs.Prelude.{◌≡◌, ◌==◌, [], OnOk, OnErr, length, option_copied};
-ghost use Rattle.repo_api.specs.Properties.{is_same_value, property_value, with_property, without_property};
+ghost use Rattle.std.specs.Prelude.{◌≡◌, ◌==◌, [], IfOk, OnOk, OnErr, length, option_copied};
+ghost use Rattle.repo_api.specs.Properties.{is_same_value, property_value, with_properties, with_property, without_property};
 
-use crate::held::{Held, copy, get, is_none, remove, set};
+use crate::held::{Held, copy, get, is_none, remove, set, set_all, value_for};
 use crate::property_rows::{PropertyRows, rows_of};
+use crate::values::PropertyValue;
 use byte_string::ByteString;
 use std::alloc::{AllocError, Global};
 use std::marker::Model;
@@ -58,7 +59,17 @@ impl Properties {
     pub fn get(&self, name: &ByteString) -> Option<&ByteString>
         ensures { option_copied result ≡ property_value self.now name.now }
     {
-        get(&self.held, name)
+        Some(get(&self.held, name)?.bytes())
+    }
+
+    /// Gives the value of the property of this name, if there is one. One of many bytes is shared, and not copied.
+    pub fn value(&self, name: &ByteString) -> Result<Option<PropertyValue>, AllocError>
+        ensures { IfOk result (λ value. value ≡ property_value self.now name.now) }
+    {
+        match get(&self.held, name) {
+            None => Ok(None),
+            Some(value) => Ok(Some(value.clone()?)),
+        }
     }
 
     /// Adds a property, or replaces its value where the name has one. An `Err` changes nothing.
@@ -66,7 +77,18 @@ impl Properties {
         ensures ok { OnOk result (self.new ≡ with_property self.old name value) }
         ensures err { OnErr result (self.new ≡ self.old) }
     {
+        let value = value_for(&self.held, value)?;
         set(&mut self.held, name, value)
+    }
+
+    /// Gives these properties and the others, whose values stand where both have one of a name. Values of many bytes are
+    /// shared, and not copied.
+    pub fn with_all(&self, others: &Properties) -> Result<Self, AllocError>
+        ensures { IfOk result (λ both. both ≡ with_properties self.now others.now) }
+    {
+        let mut held = copy(&self.held)?;
+        set_all(&mut held, &others.held)?;
+        Ok(Properties { held })
     }
 
     /// Takes out the property of this name. Where there is none, nothing changes.

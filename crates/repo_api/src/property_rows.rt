@@ -3,6 +3,7 @@ ghost use Rattle.std.specs.{Prelude.{◌≡◌, length}, Iterator.at_most, Map.I
 ghost use Rattle.repo_api.specs.Held.{list_of};
 
 use crate::held::Held;
+use crate::values::PropertyValue;
 use byte_string::ByteString;
 use std::collections::btree_map;
 use std::marker::Model;
@@ -10,8 +11,8 @@ use std::marker::Model;
 /// What is left of properties.
 #[derive(Drop)]
 enum Left<'a> {
-    Few(&'a [(ByteString, ByteString)]),
-    Many(btree_map::Iter<'a, ByteString, ByteString>),
+    Few(&'a [(ByteString, PropertyValue)]),
+    Many(btree_map::Iter<'a, ByteString, PropertyValue>),
 }
 
 /// The names and values that are left, in the order of the names.
@@ -39,7 +40,7 @@ pub(crate) fn rows_of(held: &Held) -> PropertyRows<'_>
 {
     let left = match held {
         Held::Few(rows) => Left::Few(rows.as_slice()),
-        Held::Many(tree) => Left::Many(tree.iter()),
+        Held::Many(_, tree) => Left::Many(tree.iter()),
     };
     PropertyRows { left }
 }
@@ -56,9 +57,12 @@ impl<'a> Iterator for PropertyRows<'a> {
             Left::Few(rows) => {
                 let (first, others) = rows.split_first()?;
                 *rows = others;
-                Some((&first.0, &first.1))
+                Some((&first.0, first.1.bytes()))
             }
-            Left::Many(rows) => rows.next(),
+            Left::Many(rows) => {
+                let (name, value) = rows.next()?;
+                Some((name, value.bytes()))
+            }
         }
     }
 }

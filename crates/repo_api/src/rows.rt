@@ -3,13 +3,17 @@ ghost use Rattle.std.specs.{Prelude.{◌≡◌, ◌≤◌, ◌+◌, length, take
 ghost use Rattle.std.specs.{Cmp.Lexicographic.slice_cmp, Ordering.nat_cmp};
 ghost use Rattle.repo_api.specs.{Properties.{property_value, with_property, without_property}, Rows.{AreInOrder, IsBetween}};
 
+use crate::values::PropertyValue;
 use byte_string::ByteString;
 use std::alloc::{AllocError, Global};
 use std::cmp::Ordering;
 use std::collections::BTreeMap;
 
 /// Finds the place of the row of this name, or else the place where it would go.
-pub(crate) fn search(rows: &[(ByteString, ByteString)], name: &ByteString) -> Result<usize, usize>
+pub(crate) fn search(
+    rows: &[(ByteString, PropertyValue)],
+    name: &ByteString,
+) -> Result<usize, usize>
     requires { AreInOrder rows.now }
     ensures found { IfOk result (λ place. IsSomeAnd (slice_get rows.now place)
         (λ row. slice_cmp nat_cmp name.now row.0 ≡ Ordering.Equal)) }
@@ -34,9 +38,9 @@ pub(crate) fn search(rows: &[(ByteString, ByteString)], name: &ByteString) -> Re
 
 /// Finds the value of the row of this name, if there is one.
 pub(crate) fn value_in<'a>(
-    rows: &'a [(ByteString, ByteString)],
+    rows: &'a [(ByteString, PropertyValue)],
     name: &ByteString,
-) -> Option<&'a ByteString>
+) -> Option<&'a PropertyValue>
     requires { AreInOrder rows.now }
     ensures { option_copied result ≡ property_value rows.now name.now }
 {
@@ -48,9 +52,9 @@ pub(crate) fn value_in<'a>(
 
 /// Adds a row at the place, with memory for that one more.
 fn add(
-    rows: &mut Vec<(ByteString, ByteString)>,
+    rows: &mut Vec<(ByteString, PropertyValue)>,
     place: usize,
-    row: (ByteString, ByteString),
+    row: (ByteString, PropertyValue),
 ) -> Result<(), AllocError>
     requires { place ≤ length rows.old.items }
     ensures ok { OnOk result (rows.new.items ≡ insert rows.old.items place row) }
@@ -63,9 +67,9 @@ fn add(
 
 /// Adds a row, or puts it in the place of that of the same name.
 pub(crate) fn put(
-    rows: &mut Vec<(ByteString, ByteString)>,
+    rows: &mut Vec<(ByteString, PropertyValue)>,
     name: ByteString,
-    value: ByteString,
+    value: PropertyValue,
 ) -> Result<(), AllocError>
     requires { AreInOrder rows.old.items }
     ensures ok { OnOk result (rows.new.items ≡ with_property rows.old.items name value) }
@@ -80,7 +84,7 @@ pub(crate) fn put(
 }
 
 /// Takes the row of this name out, if there is one.
-pub(crate) fn take_out(rows: &mut Vec<(ByteString, ByteString)>, name: &ByteString)
+pub(crate) fn take_out(rows: &mut Vec<(ByteString, PropertyValue)>, name: &ByteString)
     requires { AreInOrder rows.old.items }
     ensures taken { rows.new.items ≡ without_property rows.old.items name.now }
     ensures order { AreInOrder rows.new.items }
@@ -93,8 +97,8 @@ pub(crate) fn take_out(rows: &mut Vec<(ByteString, ByteString)>, name: &ByteStri
 /// Copies rows into a tree.
 pub(crate) fn tree_of(
     alloc: Global,
-    rows: &[(ByteString, ByteString)],
-) -> Result<BTreeMap<ByteString, ByteString>, AllocError>
+    rows: &[(ByteString, PropertyValue)],
+) -> Result<BTreeMap<ByteString, PropertyValue>, AllocError>
     requires { AreInOrder rows.now }
     ensures { IfOk result (λ tree. tree.entries ≡ rows.now) }
 {

@@ -5,7 +5,7 @@ ghost use Rattle.svnpath.specs.Texts.{joined};
 ghost use Rattle.repo_api.specs.{Kinds.properties_at, Properties.is_same_value};
 ghost use Rattle.traces.specs.declared.place.Place.{Place};
 ghost use Rattle.wire_deltas.specs.Deltas.{delta_chunks};
-ghost use Rattle.wire_replies.specs.{Made.Makes, Sinks.Says};
+ghost use Rattle.wire_replies.specs.{Made.Makes, Sinks.Says, declared.reply.Reply.Reply};
 ghost use Rattle.machine.specs.Histories.{delta_told, ended, file_revision_head, file_revision_told, file_revisions_refusal, file_revisions_replies, has_text_of};
 ghost use Rattle.machine.specs.Histories.{properties_before, text_before, told_in_turn};
 ghost use Rattle.machine.specs.Readings.{entry_properties};
@@ -25,7 +25,7 @@ use std::alloc::{AllocError, Global};
 use std::mem::drop;
 use svnpath::{Path, PathFault};
 use wire_deltas::{say_delta, say_delta_end};
-use wire_replies::{FileRevision, Reply, ReplySink, say_made};
+use wire_replies::{FileRevision, Reply, ReplySink, say_file_revision};
 
 /// Says why the revisions of a file are refused, if they are: the greater revision is above the youngest, merged ones are
 /// wanted too, or the path is no file there.
@@ -101,19 +101,38 @@ fn file_revision_head<R: Repository>(
     view: &R,
     before: Option<&Place>,
     place: &Place,
-) -> Result<Reply, AllocError>
-    ensures { Makes result
-        (file_revision_head (R.content view.now) (option_copied before.entry) place.now) }
+) -> Result<FileRevision, AllocError>
+    ensures { IfOk result (λ told. Reply.FileRevision told
+        ≡ file_revision_head (R.content view.now) (option_copied before.entry) place.now) }
 {
     let none = Properties::new(alloc);
     let old = properties_before(view, before, &none);
     let new = file_properties(view, place, &none);
-    Ok(Reply::FileRevision(FileRevision {
+    Ok(FileRevision {
         path: place.path.clone()?,
         revision: place.revision,
         properties: revision_properties(alloc, view, place.revision)?,
         changes: differing(alloc, old, new)?,
-    }))
+    })
+}
+
+/// Writes what is sent of a revision of a file before its text, if it could be made.
+fn say_head<S: ReplySink>(
+    alloc: Global,
+    told: Result<FileRevision, AllocError>,
+    out: &mut S,
+) -> Result<(), AllocError>
+    ensures { (reply : Reply) → IfOk told (λ head. Reply.FileRevision head ≡ reply)
+        → Says result (S.writes out.old out.new) (reply ∷ []) }
+{
+    match told {
+        Ok(head) => {
+            let said = say_file_revision(alloc, &head, out);
+            drop(head);
+            said
+        }
+        Err(error) => Err(error),
+    }
 }
 
 /// Says whether both are the same text, or both none.
@@ -179,7 +198,7 @@ fn say_other_text<R: Repository, S: ReplySink>(
 }
 
 /// Writes a revision of a file, as it differs from what was sent before.
-fn say_file_revision<R: Repository, S: ReplySink>(
+fn say_at<R: Repository, S: ReplySink>(
     alloc: Global,
     view: &R,
     before: Option<&Place>,
@@ -189,7 +208,7 @@ fn say_file_revision<R: Repository, S: ReplySink>(
     ensures { Says result (S.writes out.old out.new)
         (file_revision_told (R.content view.now) (option_copied before.entry) place.now) }
 {
-    say_made(file_revision_head(alloc, view, before, place), out)?;
+    say_head(alloc, file_revision_head(alloc, view, before, place), out)?;
     say_other_text(alloc, view, before, place, out)?;
     say_delta_end(alloc, out)
 }
@@ -206,7 +225,7 @@ fn say_each<R: Repository, S: ReplySink>(
 {
     let mut before = None;
     for place in places {
-        say_file_revision(alloc, view, before, place, out)?;
+        say_at(alloc, view, before, place, out)?;
         before = Some(place);
     }
     Ok(())

@@ -1,7 +1,7 @@
 //! The client's answer to a drive.
-ghost use Rattle.std.specs.Prelude.{◌∷◌, []};
+ghost use Rattle.std.specs.Prelude.{◌∷◌, [], Some};
 ghost use Rattle.items.specs.View.{value_of};
-ghost use Rattle.drive_wire.specs.Reporting.{client_answer};
+ghost use Rattle.drive_wire.specs.{Reporting.client_answer, declared.answering.ClientAnswer.ClientAnswer};
 ghost use Rattle.machine.specs.{Answers.{says, serves}, Reports.driven_answer, Steps.Answered};
 ghost use Rattle.wire_replies.specs.Sinks.{Says};
 
@@ -14,7 +14,7 @@ use std::alloc::AllocError;
 use std::mem::drop;
 use wire_edits::EditorCommand;
 use wire_forms::CommandFault;
-use wire_replies::{Reply, ReplySink, say_both};
+use wire_replies::{FailureLinks, Reply, ReplySink, say_both};
 
 /// Writes that a drive is given up, and then a failure.
 fn say_given_up<S: ReplySink>(failure: Reply, out: &mut S) -> Result<(), AllocError>
@@ -39,6 +39,19 @@ fn tell_given_up<R: Repository, S: ReplySink>(
     stands(Phase::Serving(client), said)
 }
 
+/// Gives a drive up at which the client failed, with what it says of that. The next command is awaited.
+fn give_up<R: Repository, S: ReplySink>(
+    client: Client,
+    links: FailureLinks,
+    turn: &mut Turn<S>,
+) -> Result<SessionPhase<R>, AllocError>
+    ensures { Answered result S.writes turn.old turn.new
+        (driven_answer turn.old.env client (Some (ClientAnswer.GivenUp links))) }
+{
+    let failure = drive_failure(client.is_of_today, links);
+    tell_given_up(client, failure, turn)
+}
+
 /// Tells that a drive was taken. The next command is awaited.
 fn tell_taken<R: Repository, S: ReplySink>(
     client: Client,
@@ -61,10 +74,7 @@ pub fn driven_item<R: Repository, S: ReplySink>(
 {
     match ClientAnswer::from_item(turn.alloc, item) {
         Ok(ClientAnswer::Taken) => tell_taken(client, turn),
-        Ok(ClientAnswer::GivenUp(links)) => {
-            let failure = drive_failure(client.is_of_today, links);
-            tell_given_up(client, failure, turn)
-        }
+        Ok(ClientAnswer::GivenUp(links)) => give_up(client, links, turn),
         Err(CommandFault::NoMemory) => {
             drop(client);
             Err(AllocError)

@@ -91,6 +91,43 @@ fn a_million_lists_are_not_opened(rt: HostRuntime) {
     assert!(rt; ends_within(&rt, rt.alloc(), hub));
 }
 
+/// How many revisions there may be behind revision 0.
+const LAST: usize = 262_143;
+
+/// A client at the root, and a commit of nothing.
+const AT_ROOT: &[u8] = b"( 2 ( edit-pipeline ) 9:svn://h/r ) ( ANONYMOUS ( ) ) ";
+
+const COMMIT: &[u8] = b"( commit ( 0: ( ) false ) ) ( open-root ( ( ) 2:d0 ) ) ( close-edit ( ) ) ";
+
+/// What is told where there are all revisions that there may be: the youngest, and that a commit is refused.
+const YOUNGEST: &[u8] = b"( success ( ( ) 0: ) ) ( success ( 262143 ) ) ";
+
+const REFUSED: &[u8] = b"( success ( ( ) 0: ) ) ( success ( ) ) \
+      ( failure ( ( 200007 13:not supported 0: 0 ) ) ) ";
+
+/// Says whether a commit is refused where there are all revisions that there may be, and adds none.
+fn is_refused_at_last<A: SoleAccess + Drop>(rt: &impl Abort, alloc: Global, hub: Hub<A>) -> bool {
+    let mut hub = hub;
+    let (number, _) = hub.connect().expect(rt, "a session");
+    drop(hub.feed(number, AT_ROOT, ENV).expect(rt, "replies"));
+    let commits = COMMIT.repeat(alloc, LAST).expect(rt, "memory");
+    drop(
+        hub.feed(number, commits.as_slice(), ENV)
+            .expect(rt, "replies"),
+    );
+    let mut sent = Vec::from_slice(alloc, COMMAND).expect(rt, "memory");
+    sent.extend_from_slice(COMMIT).expect(rt, "memory");
+    sent.extend_from_slice(COMMAND).expect(rt, "memory");
+    let told = hub.feed(number, sent.as_slice(), ENV).expect(rt, "replies");
+    are(told.as_slice(), &[YOUNGEST, REFUSED, YOUNGEST])
+}
+
+#[test]
+fn there_are_262_144_revisions_at_most(rt: HostRuntime) {
+    let hub = new_hub::<World>(&rt, rt.alloc(), options_of_r(&rt, rt.alloc()));
+    assert!(rt; is_refused_at_last(&rt, rt.alloc(), hub));
+}
+
 /// Notes how it is called.
 #[derive(Drop)]
 struct Noting {

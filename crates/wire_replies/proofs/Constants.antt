@@ -2,7 +2,7 @@
 use Rattle.std.specs.{Prelude.{Result, Ok, Err, is_ok, MatchResult, if◌then◌else◌}, Fmt.digits}
 use Rattle.std.proofs.Common.{◌≡◌, ℕ, List, ◌++◌, ◌∙◌, ap, append_assoc, sym, codes, refl}
 use Rattle.items.specs.Print.{Grows, printed}
-use Rattle.wire_replies.specs.{Replies.reply_item, declared.reply.Reply.TheVariants.{Greeting, NoLogin, MechanismNotOffered, LoginFailed}}
+use Rattle.wire_replies.specs.{Replies.reply_item, declared.reply.Reply.TheVariants.{Greeting, NoLogin, MechanismNotOffered, LoginFailed, FinishReplay}}
 
 pub printed-greeting : printed (reply_item Greeting) ≡ codes "( success ( 2 2 ( ) ( edit-pipeline absent-entries commit-revprops depth atomic-revprops ) ) ) "
 unfolding digits
@@ -19,6 +19,9 @@ printed-not_offered = refl
 pub printed-login_failed : printed (reply_item LoginFailed) ≡ codes "( failure ( 12:login failed ) ) "
 unfolding digits
 printed-login_failed = refl
+
+pub printed-finish_replay : printed (reply_item FinishReplay) ≡ codes "( finish-replay ( ) ) "
+printed-finish_replay = refl
 
 -- what is wanted is what was appended; or, where there is an error, nothing was
 pub appended : {T E : Type 0} (r : Result T E) (old new text wanted : List ℕ) → new ≡ (if is_ok r then old ++ text else old) → wanted ≡ text

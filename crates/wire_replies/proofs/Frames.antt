@@ -1,12 +1,13 @@
 -- The bytes of replies that are written in parts: what comes before, the parts, and what comes behind.
 use Rattle.std.proofs.Common.{◌≡◌, ◌∙◌, ℕ, List, [], ◌∷◌, ◌++◌, refl, ap, codes, append-nil}
-use Rattle.svnpath.specs.Paths.{PathValue}
+use Rattle.svnpath.specs.{Paths.PathValue, Texts.path_text}
 use Rattle.repo_api.specs.{Properties.PropertyList, declared.lock.Lock.Lock}
-use Rattle.items.specs.{Print.{printed, row_printed}, Values.{both, ItemValues, list, more, number, only}}
-use Rattle.wire_replies.specs.{Parts.{directory_end, directory_head, file_head, log_end, log_head}, Replies.{change_trees, entry_trees, lock_trees, optional_string_trees, print, property_trees, success}}
+use Rattle.items.specs.{Print.{printed, row_printed}, Values.{both, ItemValues, list, more, number, only, string}}
+use Rattle.wire_replies.specs.{Parts.{directory_end, directory_head, file_head, file_revision_place, log_end, log_head}, Replies.{change_trees, entry_trees, lock_trees, optional_string_trees, print, property_change_trees, property_trees, success}}
+use Rattle.wire_replies.specs.declared.file_revisions.FileRevision.{FileRevision as FileRevisionValue}
 use Rattle.wire_replies.specs.{declared.entries.DirectoryInfo.DirectoryInfo as DirectoryInfoValue, declared.entries.FileInfo.FileInfo as FileInfoValue}
 use Rattle.wire_replies.specs.{declared.histories.LogEntry.LogEntry as LogEntryValue, declared.histories.LogFacts.LogFacts}
-use Rattle.wire_replies.specs.declared.reply.Reply.TheVariants.{DirectoryInfo, FileInfo, Locks, LogEntry, Properties}
+use Rattle.wire_replies.specs.declared.reply.Reply.TheVariants.{DirectoryInfo, FileInfo, FileRevision, Locks, LogEntry, Properties}
 
 -- the lists that a reply of success ends with are closed
 closed : (row : List ℕ) → (((row ++ codes ") ") ++ []) ++ codes ") ") ++ [] ≡ row ++ codes ") ) "
@@ -77,3 +78,21 @@ log_printed entry =
     ap (λ t. codes "( ( " ++ t)
     (log_closed (row_printed (change_trees entry.changes)) (printed (number entry.revision)) (printed (list (optional_string_trees entry.author)))
     (printed (list (optional_string_trees entry.date))) (printed (list (optional_string_trees entry.message))))
+
+-- what is said of a revision of a file: four parts, and the end
+revision_closed : (path n ps cs : List ℕ) → ((path ++ (n ++ (ps ++ (cs ++ codes "false ")))) ++ codes ") ") ++ []
+    ≡ ((path ++ n) ++ ps) ++ (cs ++ codes "false ) ")
+revision_closed [] [] [] [] = refl
+revision_closed [] [] [] (x ∷ cs) = ap (λ t. x ∷ t) (revision_closed [] [] [] cs)
+revision_closed [] [] (x ∷ ps) cs = ap (λ t. x ∷ t) (revision_closed [] [] ps cs)
+revision_closed [] (x ∷ n) ps cs = ap (λ t. x ∷ t) (revision_closed [] n ps cs)
+revision_closed (x ∷ path) n ps cs = ap (λ t. x ∷ t) (revision_closed path n ps cs)
+
+pub file_revision_printed : (told : FileRevisionValue)
+    → print (FileRevision told ∷ [])
+    ≡ (file_revision_place told.path told.revision ++ printed (list (property_trees told.properties)))
+    ++ (printed (list (property_change_trees told.changes)) ++ codes "false ) ")
+file_revision_printed told =
+    ap (λ t. codes "( " ++ t)
+    (revision_closed (printed (string (path_text told.path))) (printed (number told.revision))
+    (printed (list (property_trees told.properties))) (printed (list (property_change_trees told.changes))))

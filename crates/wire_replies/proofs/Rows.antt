@@ -4,7 +4,7 @@ use Rattle.std.proofs.Common.{◌≡◌, true, false, List, ℕ, [], ◌∷◌, 
 use Rattle.repo_api.specs.declared.change.Action.TheVariants as actions
 use Rattle.repo_api.specs.declared.entry.NodeKind.TheVariants as kinds
 use Rattle.wire_replies.specs.{Replies.{contents, print}, declared.entries.NodeInfo.NodeInfo, declared.histories.LoggedChange.LoggedChange}
-use Rattle.wire_replies.specs.declared.reply.Reply.TheVariants.{Success, FileInfo, DirectoryInfo, Stat, RevisionProperty, LogEntry, Location, Done, Failures}
+use Rattle.wire_replies.specs.declared.reply.Reply.TheVariants.{Success, FileInfo, DirectoryInfo, Stat, RevisionProperty, LogEntry, Location, FileRevision, ReplayedProperties, FinishReplay, Done, Failures}
 
 -- ---- what is known of a path
 
@@ -89,6 +89,20 @@ pub locations_row : print (Location 4 (codes "branch" ∷ codes "g" ∷ []) ∷ 
     ≡ codes "( 4 9:/branch/g ) ( 3 8:/trunk/g ) done "
 unfolding digits
 locations_row = refl
+
+-- ---- a revision of a file, before its text
+
+pub file_revision_row : print (FileRevision (record { path = codes "trunk" ∷ codes "f" ∷ []; revision = 5; properties = (codes "svn:log", codes "copy") ∷ []; changes = (codes "a", Some (codes "1")) ∷ (codes "b", None) ∷ [] }) ∷ [])
+    ≡ codes "( 8:/trunk/f 5 ( ( 7:svn:log 4:copy ) ) ( ( 1:a ( 1:1 ) ) ( 1:b ( ) ) ) false ) "
+unfolding digits
+file_revision_row = refl
+
+-- ---- a revision that is replayed
+
+pub replay_row : print (ReplayedProperties ((codes "svn:log", codes "copy") ∷ []) ∷ FinishReplay ∷ [])
+    ≡ codes "( revprops ( ( 7:svn:log 4:copy ) ) ) ( finish-replay ( ) ) "
+unfolding digits
+replay_row = refl
 
 -- ---- failures of several links
 

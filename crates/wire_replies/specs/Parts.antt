@@ -1,7 +1,8 @@
 -- The parts of replies that are written as they are made: what comes before the entries, and after them.
 use Rattle.std.specs.Prelude.{ℕ, List, ◌++◌, Option, codes}
-use Rattle.items.specs.{Print.printed, Values.{list, number}}
+use Rattle.items.specs.{Print.printed, Values.{list, number, string}}
 use Rattle.repo_api.specs.Properties.{PropertyList}
+use Rattle.svnpath.specs.{Paths.PathValue, Texts.path_text}
 use Rattle.wire_replies.specs.{Replies.{optional_string_trees, property_trees}, declared.histories.LogFacts.LogFacts}
 
 -- `( success ( [ md5 ] rev`: what comes before the properties of a file
@@ -31,3 +32,8 @@ log_end facts =
     ++ (printed (number facts.revision) ++ (printed (list (optional_string_trees facts.author))
     ++ (printed (list (optional_string_trees facts.date))
     ++ (printed (list (optional_string_trees facts.message)) ++ codes ") "))))
+
+-- `( path rev`: what comes before the properties of a revision of a file
+abbrev pub file_revision_place : PathValue → ℕ → List ℕ
+file_revision_place path revision =
+    codes "( " ++ (printed (string (path_text path)) ++ printed (number revision))

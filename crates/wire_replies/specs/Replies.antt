@@ -19,7 +19,7 @@ use Rattle.wire_replies.specs.{declared.reply.Offer.TheVariants.{Anonymous, Anon
 use Rattle.wire_replies.specs.declared.reply.Reply.TheVariants.{Greeting, NoLogin, Login, MechanismNotOffered, Challenge, LoginFailed, Success, ReposInfo}
 use Rattle.wire_replies.specs.declared.reply.Reply.TheVariants.{Revision, Kind, Properties, Lock, Locks, CommitInfo, FileInfo, Piece, DirectoryInfo, Stat}
 use Rattle.wire_replies.specs.declared.reply.Reply.TheVariants.{RevisionProperty, LogEntry, Location, Segment, FileRevision, Chunk}
-use Rattle.wire_replies.specs.declared.reply.Reply.TheVariants.{Edit, Done, Failure, Failures}
+use Rattle.wire_replies.specs.declared.reply.Reply.TheVariants.{Edit, ReplayedProperties, FinishReplay, Done, Failure, Failures}
 
 -- the text of a number of 128 bits: `8-4-4-4-12` lower-case hexadecimal digits
 abbrev pub uuid_text : ℕ → List ℕ
@@ -162,6 +162,11 @@ file_revision told =
     (more (list (property_trees told.properties))
     (both (list (property_change_trees told.changes)) (word (codes "false"))))))
 
+-- `( revprops ( ( name value ) ... ) )`: the properties of a revision that is replayed
+abbrev pub replayed_properties : PropertyList → ItemValue
+replayed_properties properties =
+    list (both (word (codes "revprops")) (list (property_trees properties)))
+
 -- `( path token owner [ comment ] created ( ) )`: a lock at a path; no lock has an end
 abbrev pub lock_tree : PathValue → LockValue → ItemValue
 lock_tree path lock =
@@ -237,6 +242,8 @@ reply_item (Segment first last path) = segment_item first last path
 reply_item (FileRevision told) = file_revision told
 reply_item (Chunk bytes) = string bytes
 reply_item (Edit command) = command_item command
+reply_item (ReplayedProperties properties) = replayed_properties properties
+reply_item FinishReplay = list (both (word (codes "finish-replay")) (list none))
 reply_item Done = word (codes "done")
 reply_item (Failure refusal path) =
     failure (only (list (more (number (refusal_number refusal))

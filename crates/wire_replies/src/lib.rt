@@ -21,7 +21,7 @@ pub use entries::{
     say_file_info,
 };
 pub use failures::{FailureLink, FailureLinks};
-pub use file_revisions::{FileRevision, PropertyChanges};
+pub use file_revisions::{FileRevision, PropertyChanges, say_file_revision};
 pub use histories::{
     ChangeList, LogEntry, LogFacts, LoggedChange, say_change, say_log_end, say_log_head,
 };

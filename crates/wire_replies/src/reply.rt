@@ -2,7 +2,7 @@
 ghost use Rattle.std.specs.Prelude.{◌≡◌, ◌++◌, IfOk, IsOkAnd, OnOk, OnErr, codes};
 ghost use Rattle.items.specs.{Print.{AppendsItem, WritesItem, printed}, Values.{both, list, more, none, only, string, word}, View.{value_of, values_of}};
 ghost use Rattle.wire_replies.specs.Replies.{reply_item, success, failure, mechanism_trees, capabilities, uuid_text, commit_info, refusal_message};
-ghost use Rattle.wire_replies.specs.Replies.{release_fault};
+ghost use Rattle.wire_replies.specs.Replies.{release_fault, replayed_properties};
 
 use crate::build::{list_item, number_item, optional_string_item, string_item, word_item};
 use crate::contents::TextPiece;
@@ -85,8 +85,12 @@ pub enum Reply {
     FileRevision(FileRevision),
     /// The next bytes of a delta, or the empty string that ends it.
     Chunk(ByteString),
-    /// A command of a drive.
+    /// A command of a drive, or of the edit of a revision that is replayed.
     Edit(EditorCommand),
+    /// The properties of a revision that is replayed, before its edit.
+    ReplayedProperties(Properties),
+    /// The edit of a revision that is replayed has come to its end.
+    FinishReplay,
     /// No further revision of a log or of a file comes, or no further location or segment.
     Done,
     /// The command is refused, and the path at which it is, if that is told.
@@ -123,6 +127,8 @@ impl Drop for Reply {
             Reply::FileRevision(_) => {}
             Reply::Chunk(_) => {}
             Reply::Edit(_) => {}
+            Reply::ReplayedProperties(_) => {}
+            Reply::FinishReplay => {}
             Reply::Done => {}
             Reply::Failure(_, _) => {}
             Reply::Failures(_) => {}
@@ -190,6 +196,11 @@ impl Reply {
             Reply::FileRevision(told) => write_made(file_revision_item(alloc, told), out),
             Reply::Chunk(bytes) => write_string(bytes.as_slice(), out),
             Reply::Edit(command) => write_command(command, out),
+            Reply::ReplayedProperties(properties) => write_made(
+                replayed_properties_item(alloc, properties),
+                out,
+            ),
+            Reply::FinishReplay => out.extend_from_slice(b"( finish-replay ( ) ) "),
             Reply::Done => out.extend_from_slice(b"done "),
             Reply::Failure(refusal, path) => write_made(refusal_item(alloc, *refusal, path), out),
             Reply::Failures(links) => write_made(failures_item(alloc, links), out),
@@ -269,6 +280,15 @@ fn success_of(alloc: Global, param: Result<Item, AllocError>) -> Result<Item, Al
         value_of item ≡ success (only (value_of made)))) }
 {
     success_item(alloc, [param?])
+}
+
+/// Makes `( revprops ( ( name value ) ... ) )`.
+fn replayed_properties_item(alloc: Global, properties: &Properties) -> Result<Item, AllocError>
+    ensures { IfOk result (λ item. value_of item ≡ replayed_properties properties.now) }
+{
+    let word = word_item(alloc, b"revprops")?;
+    let properties = properties_item(alloc, properties)?;
+    list_item(alloc, [word, properties])
 }
 
 /// Makes `( failure ( param ) )`.
