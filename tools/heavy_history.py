@@ -3,7 +3,7 @@
 import os
 
 import spelling
-from clients import URL, edit, mebibytes
+from clients import URL, Refused, edit, mebibytes
 from heavy import MEBIBYTE, PLACES, asks, goes_within, listed
 from heavy_work import TEXT, WINDOW, copied
 from spelling import NO_TEXT, add_directory, add_file, close_file, delete_entry, delta, document, open_directory, open_file, string, window
@@ -17,6 +17,8 @@ LOCATED_WITHIN, LOGGED_WITHIN = 1, 20
 # for how many seconds a processor may work at the revisions of a file with short texts, and how much memory a session takes beside a
 # text that it is sent, in MiB
 BLAMED_WITHIN, BLAME_LIMIT = 1, 4
+# for how many seconds a processor may work at the replay of many small revisions
+REPLAYED_WITHIN = 1
 
 
 def changes(client, count, commands):
@@ -164,3 +166,40 @@ def takes_no_text(row, what, command, length, today):
     if cost.memory > len(clients) * (length + BLAME_LIMIT * MEBIBYTE) / 1024:
         row.fail(f"{len(clients)} that ask for {what} take {mebibytes(cost.memory)}")
     row.vanish(*clients)
+
+
+def replayed(client, command):
+    """How many items the edits of a replay have, and how many texts there are in them."""
+    client.send(command)
+    client.succeed()
+    items = texts = 0
+    while (found := client.item())[0] not in ("success", "failure"):
+        items += 1
+        texts += found[0] == "apply-textdelta"
+    if found[0] == "failure":
+        raise Refused(found)
+    return items, texts
+
+
+def replays(row):
+    """What revisions did, one after another: of one that takes it, of many that take nothing, and of those that go."""
+    count, alice, today = row.options.revisions, row.client("alice"), {"is_of_today": True}
+    many = count // 8
+    last = with_long_texts(alice, "long", MEBIBYTE, many)
+    of_long = spelling.replay_range(1, last)
+    with row.attack(f"a commit of a directory of {row.options.files:,} files"):
+        wide = edit(alice, add_directory("wide", "d0", "d1"), *(add_file(f"wide/{n}", "d1", "c1") + close_file("c1") for n in range(row.options.files)))
+    begin = [open_directory("wide", "d0", "d1"), open_file("wide/0", "d1", "c1")]
+    newest = changes(alice, count, lambda number: [*begin, *delta("c1", document(b"%d" % number)), close_file("c1")])
+    for what, command, most in (
+        (f"{last:,} revisions with texts of 1 MiB", of_long, None),
+        (f"{count:,} revisions of one file of {row.options.files:,} in its directory", spelling.replay_range(wide + 1, newest), REPLAYED_WITHIN),
+        ("the same without texts", spelling.replay_range(wide + 1, newest, 0, False), REPLAYED_WITHIN),
+    ):
+        told = asks(row, what, replayed, command, most=most, **today)
+        row.say(f"{what}: {told[0] if told else 0:,} items, {told[1] if told else 0:,} texts")
+    takes_no_text(row, "a replay of those with texts of 1 MiB", of_long, MEBIBYTE, today)
+    if row.is_other:
+        return
+    goes_within(row, "a replay of those with texts of 1 MiB", of_long, **today)
+    goes_within(row, "a replay of all revisions, without texts", spelling.replay_range(0, newest, 0, False) * 100, **today)

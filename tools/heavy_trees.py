@@ -135,6 +135,8 @@ def copies(row):
     drive(row, "a checkout of everything", spelling.update(), again, FINISH_REPORT)
     drive(row, "a status against nothing", spelling.status(), again, FINISH_REPORT)
     drive(row, "a switch from one such directory to the other", switch_of("d", "e", revision))
+    copied = edit(alice, add_directory("y", "d0", "d1", string(f"{URL}/d") + b"%d " % revision))
+    drive(row, "a replay of a copy of it, where nothing before is followed", spelling.replay(copied, copied), is_of_today=True)
 
 
 def many(client, tops, count):

@@ -479,6 +479,41 @@ def close_file(token, checksum=None):
     return b"( close-file ( " + string(token) + optional(checksum) + b") ) "
 
 
+FINISH_REPLAY = b"( finish-replay ( ) ) "
+
+
+def replay(revision, low=0, sends_deltas=True):
+    """What a revision did, as an edit. Below the second one the client has nothing."""
+    return b"( replay ( %d %d " % (revision, low) + boolean(sends_deltas) + b") ) "
+
+
+def replay_range(start, end, low=0, sends_deltas=True):
+    """The same of revisions, one after another."""
+    return b"( replay-range ( %d %d %d " % (start, end, low) + boolean(sends_deltas) + b") ) "
+
+
+def replayed_properties(properties):
+    """The properties of a revision of a range, before its edit."""
+    return b"( revprops " + sorted_pairs(properties) + b") "
+
+
+def edit_replayed(revision, commands):
+    """What a revision did: its edit, which is opened and closed unless nothing is to be said."""
+    inside = [open_root(), *commands, close_directory("d0")] if commands is not None else []
+    return target_revision(revision) + b"".join(inside) + FINISH_REPLAY
+
+
+def replayed(revision, commands):
+    """The answer to `replay`."""
+    return NO_LOGIN + edit_replayed(revision, commands) + EMPTY
+
+
+def range_replayed(*revisions):
+    """The answer to `replay-range`: each revision's number, its properties, and the commands of its edit."""
+    told = (replayed_properties(properties) + edit_replayed(number, commands) for number, properties, commands in revisions)
+    return NO_LOGIN + b"".join(told) + EMPTY
+
+
 def absent_directory(path, parent):
     """A directory that is not shown."""
     return b"( absent-dir ( " + string(path) + string(parent) + b") ) "

@@ -11,7 +11,7 @@ use Rattle.commands.specs.declared.command.DriveCommand.TheVariants.{Update, Swi
 use Rattle.commands.specs.declared.command.MainCommand.TheVariants.{Read, Drive, Commit, AbortEdit, Lock, Unlock, ChangeRevProp, Reparent}
 use Rattle.commands.specs.declared.command.ReadCommand.TheVariants.{GetLatestRev, CheckPath, RevProplist, GetLock, GetLocks, GetFile, GetDir, Stat, GetDatedRev}
 use Rattle.commands.specs.declared.command.ReadCommand.TheVariants.{RevProp, Log, GetLocations, History}
-use Rattle.commands.specs.declared.command.HistoryCommand.TheVariants.{GetLocationSegments, GetDeletedRev, GetFileRevs}
+use Rattle.commands.specs.declared.command.HistoryCommand.TheVariants.{GetLocationSegments, GetDeletedRev, GetFileRevs, Replay, ReplayRange}
 use Rattle.commands.specs.declared.command.CommandName.TheVariants as names
 use Rattle.repo_api.specs.{declared.property_ask.PreviousValue.PreviousValue, declared.property_ask.PreviousValue.TheVariants.{Any, Exactly}}
 
@@ -261,6 +261,25 @@ get_file_revs params = do
   Some (Read (History (GetFileRevs
       (record { path = path; start = start; end = end; wants_merged = merged }))))
 
+-- `( rev low-water-mark send-deltas )`
+abbrev pub replay : ItemValues → Option MainCommand
+replay params = do
+  (revision, rest) ← number_first params
+  (low, rest) ← number_first rest
+  (deltas, _) ← flag_first rest
+  Some (Read (History (Replay
+      (record { revision = revision; low = low; sends_deltas = deltas }))))
+
+-- `( start end low-water-mark send-deltas )`
+abbrev pub replay_range : ItemValues → Option MainCommand
+replay_range params = do
+  (start, rest) ← number_first params
+  (end, rest) ← number_first rest
+  (low, rest) ← number_first rest
+  (deltas, _) ← flag_first rest
+  Some (Read (History (ReplayRange
+      (record { start = start; end = end; low = low; sends_deltas = deltas }))))
+
 -- the names of the commands, as any client sends them
 abbrev pub command_names : List (List ℕ × CommandName)
 command_names =
@@ -294,6 +313,8 @@ names_of_today =
     (codes "get-location-segments", names.GetLocationSegments)
     ∷ (codes "get-deleted-rev", names.GetDeletedRev)
     ∷ (codes "get-file-revs", names.GetFileRevs)
+    ∷ (codes "replay", names.Replay)
+    ∷ (codes "replay-range", names.ReplayRange)
     ∷ (codes "diff", names.Diff)
     ∷ []
 
@@ -334,6 +355,8 @@ main_command_with names.GetLocations params = get_locations params
 main_command_with names.GetLocationSegments params = get_location_segments params
 main_command_with names.GetDeletedRev params = get_deleted_rev params
 main_command_with names.GetFileRevs params = get_file_revs params
+main_command_with names.Replay params = replay params
+main_command_with names.ReplayRange params = replay_range params
 main_command_with names.Update params = option_map (λ r. Drive (Update r)) (update params)
 main_command_with names.Switch params = option_map (λ p. Drive (Switch p.0 p.1)) (switch params)
 main_command_with names.Status params = option_map (λ r. Drive (Status r)) (status params)

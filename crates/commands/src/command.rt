@@ -6,6 +6,7 @@ ghost use Rattle.commands.specs.Commands.{main_command, main_command_name, main_
 ghost use Rattle.commands.specs.Commands.{lock, unlock, get_lock, get_locks, path_first, get_file, get_dir, has_fields, stat, get_dated_rev, rev_prop};
 ghost use Rattle.commands.specs.Commands.{change_rev_prop, change_rev_prop2, previous_value, reparent, limit_at_end, log_command, get_locations};
 ghost use Rattle.commands.specs.Commands.{get_deleted_rev, get_file_revs, get_location_segments, merged_at_end, name_of_today};
+ghost use Rattle.commands.specs.Commands.{replay, replay_range};
 
 use crate::login::are_words;
 use byte_string::ByteString;
@@ -139,7 +140,30 @@ pub struct GetFileRevsCommand {
     pub wants_merged: bool,
 }
 
-/// A command of clients of today alone that reads the history of a path, with its parameters.
+/// What a `replay` asks for.
+#[derive(Drop)]
+pub struct ReplayCommand {
+    pub revision: u64,
+    /// The revision below which the client has nothing.
+    pub low: u64,
+    /// Whether texts and the values of properties are to be sent.
+    pub sends_deltas: bool,
+}
+
+/// What a `replay-range` asks for.
+#[derive(Drop)]
+pub struct ReplayRangeCommand {
+    /// The revision that comes first.
+    pub start: u64,
+    /// The revision that comes last.
+    pub end: u64,
+    /// The revision below which the client has nothing.
+    pub low: u64,
+    /// Whether texts and the values of properties are to be sent.
+    pub sends_deltas: bool,
+}
+
+/// A command of clients of today alone that reads the history of a path or of the repository, with its parameters.
 #[derive(Drop)]
 pub enum HistoryCommand {
     /// Where something was, stretch by stretch: `( get-location-segments ( path [ peg ] [ start ] [ end ] ) )`.
@@ -148,6 +172,10 @@ pub enum HistoryCommand {
     GetDeletedRev(GetDeletedRevCommand),
     /// The revisions of a file with their texts: `( get-file-revs ( path [ start ] [ end ] ? include-merged ) )`.
     GetFileRevs(GetFileRevsCommand),
+    /// What a revision did, as an edit: `( replay ( rev low-water-mark send-deltas ) )`.
+    Replay(ReplayCommand),
+    /// What revisions did, one after another: `( replay-range ( start end low-water-mark send-deltas ) )`.
+    ReplayRange(ReplayRangeCommand),
 }
 
 /// A command that only reads the repository, with its parameters.
@@ -180,7 +208,7 @@ pub enum ReadCommand {
     Log(LogCommand),
     /// Where something was in other revisions: `( get-locations ( path peg-rev ( rev ... ) ) )`.
     GetLocations(GetLocationsCommand),
-    /// Reads the history of a path for a client of today.
+    /// Reads the history of a path or of the repository for a client of today.
     History(HistoryCommand),
 }
 
@@ -266,6 +294,8 @@ pub enum CommandName {
     GetLocationSegments,
     GetDeletedRev,
     GetFileRevs,
+    Replay,
+    ReplayRange,
     Update,
     Switch,
     Status,
@@ -299,10 +329,12 @@ const COMMAND_NAMES: [(&[u8], CommandName); 22] = [
 ];
 
 /// The names of those that clients of today alone send.
-const NAMES_OF_TODAY: [(&[u8], CommandName); 4] = [
+const NAMES_OF_TODAY: [(&[u8], CommandName); 6] = [
     (b"get-location-segments", CommandName::GetLocationSegments),
     (b"get-deleted-rev", CommandName::GetDeletedRev),
     (b"get-file-revs", CommandName::GetFileRevs),
+    (b"replay", CommandName::Replay),
+    (b"replay-range", CommandName::ReplayRange),
     (b"diff", CommandName::Diff),
 ];
 
@@ -358,6 +390,8 @@ fn read_command(
         CommandName::GetLocationSegments => read_get_location_segments(params),
         CommandName::GetDeletedRev => read_get_deleted_rev(params),
         CommandName::GetFileRevs => read_get_file_revs(params),
+        CommandName::Replay => read_replay(params),
+        CommandName::ReplayRange => read_replay_range(params),
         CommandName::Update => Ok(MainCommand::Drive(DriveCommand::Update(read_update(params)?))),
         CommandName::Switch => {
             let (request, url) = read_switch(params)?;
@@ -707,4 +741,36 @@ fn read_get_file_revs(params: &[Item]) -> Result<MainCommand, CommandFault>
         end,
         wants_merged,
     }))))
+}
+
+/// Reads `( rev low-water-mark send-deltas )`.
+fn read_replay(params: &[Item]) -> Result<MainCommand, CommandFault>
+    ensures { Reads result (replay (values_of params.now)) }
+{
+    let (revision, rest) = read_number(params).ok_or(BadParameters)?;
+    let (low, rest) = read_number(rest).ok_or(BadParameters)?;
+    let (sends_deltas, _) = read_flag(rest).ok_or(BadParameters)?;
+    let command = ReplayCommand {
+        revision,
+        low,
+        sends_deltas,
+    };
+    Ok(MainCommand::Read(ReadCommand::History(HistoryCommand::Replay(command))))
+}
+
+/// Reads `( start end low-water-mark send-deltas )`.
+fn read_replay_range(params: &[Item]) -> Result<MainCommand, CommandFault>
+    ensures { Reads result (replay_range (values_of params.now)) }
+{
+    let (start, rest) = read_number(params).ok_or(BadParameters)?;
+    let (end, rest) = read_number(rest).ok_or(BadParameters)?;
+    let (low, rest) = read_number(rest).ok_or(BadParameters)?;
+    let (sends_deltas, _) = read_flag(rest).ok_or(BadParameters)?;
+    let command = ReplayRangeCommand {
+        start,
+        end,
+        low,
+        sends_deltas,
+    };
+    Ok(MainCommand::Read(ReadCommand::History(HistoryCommand::ReplayRange(command))))
 }

@@ -7,6 +7,7 @@ mod login;
 pub use command::{
     CommandName, CommitCommand, DriveCommand, GetDeletedRevCommand, GetDirCommand, GetFileCommand,
     GetFileRevsCommand, GetLocationSegmentsCommand, GetLocationsCommand, HistoryCommand,
-    LockCommand, LogCommand, MainCommand, ReadCommand, UnlockCommand,
+    LockCommand, LogCommand, MainCommand, ReadCommand, ReplayCommand, ReplayRangeCommand,
+    UnlockCommand,
 };
 pub use login::{AuthResponse, ClientGreeting, challenge_answer};

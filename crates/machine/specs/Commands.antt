@@ -14,7 +14,7 @@ use Rattle.commands.specs.{declared.command.DriveCommand.TheVariants.{Update, Sw
 use Rattle.commands.specs.declared.command.MainCommand.TheVariants.{Read, Drive, Commit, AbortEdit, Lock, Unlock, ChangeRevProp, Reparent}
 use Rattle.commands.specs.{declared.command.ReadCommand.ReadCommand, declared.command.ReadCommand.TheVariants.{GetLatestRev, CheckPath, RevProplist, GetLock}}
 use Rattle.commands.specs.declared.command.ReadCommand.TheVariants.{GetLocks, GetFile, GetDir, Stat, GetDatedRev, RevProp, Log, GetLocations, History}
-use Rattle.commands.specs.{declared.command.HistoryCommand.HistoryCommand, declared.command.HistoryCommand.TheVariants.{GetLocationSegments, GetDeletedRev, GetFileRevs}}
+use Rattle.commands.specs.{declared.command.HistoryCommand.HistoryCommand, declared.command.HistoryCommand.TheVariants.{GetLocationSegments, GetDeletedRev, GetFileRevs, Replay, ReplayRange}}
 use Rattle.commands.specs.{declared.command.LockCommand.LockCommand, declared.command.UnlockCommand.UnlockCommand}
 use Rattle.wire_replies.specs.{Replies.uuid_text, declared.reply.Reply.Reply}
 use Rattle.wire_replies.specs.declared.reply.Reply.TheVariants as replies
@@ -24,6 +24,7 @@ use Rattle.drive_reports.specs.declared.ask.Purpose.TheVariants as purposes
 use Rattle.edit_rules.specs.Edits.{new_edit}
 use Rattle.machine.specs.{Settings.Settings, Answers.{Verdict, Answer, Step, says, serves, change_answer, ChangeStep, Always, Shows}}
 use Rattle.machine.specs.{Answers.Verdict.{Written, NotWritten, Unknown}, Dates.is_refused_date, Histories.{all_joined, deleted_reply, file_revisions_replies, log_replies, locations_replies, segments_replies}}
+use Rattle.machine.specs.Replays.{replay_range_replies, replay_replies}
 use Rattle.machine.specs.{Readings.{place_read, file_replies, directory_reply, stat_reply, dated_reply, property_reply}, declared.env.Env.Env}
 use Rattle.machine.specs.{declared.commit_parameters.CommitParameters.CommitParameters, declared.phase.Phase.TheVariants.{Serving, Editing, Reporting}}
 use Rattle.machine.specs.{declared.comments.TheConstants.COMMENT_LIMIT, declared.phase.Client.Client}
@@ -56,7 +57,7 @@ abbrev pub locks_reply : (PathValue → LockList) → Result PathValue PathFault
 locks_reply found (Ok path) = replies.Locks (found path)
 locks_reply found (Err fault) = replies.Failure (path_refusal fault) None
 
--- what a client of today is told of the history of a path
+-- what a client of today is told of the history of a path, or of the repository
 abbrev pub history_replies : Client → HistoryCommand → RepoState → List Reply
 history_replies client (GetLocationSegments command) c =
     segments_replies client.is_of_today c command (joined client.path command.path)
@@ -64,6 +65,8 @@ history_replies client (GetDeletedRev command) c =
     deleted_reply c command (joined client.path command.path) ∷ []
 history_replies client (GetFileRevs command) c =
     file_revisions_replies client.is_of_today c command (joined client.path command.path)
+history_replies client (Replay command) c = replay_replies client c command
+history_replies client (ReplayRange command) c = replay_range_replies client c command
 
 -- what a client is told where the repository is read, as it is seen from the path of its URL
 abbrev pub read_replies : Client → ReadCommand → RepoState → List Reply

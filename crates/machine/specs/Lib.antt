@@ -4,6 +4,7 @@ pub mod Stages
 pub mod Answers
 pub mod Readings
 pub mod Histories
+pub mod Replays
 pub mod Reports
 pub mod Dates
 pub mod Commands

@@ -1,4 +1,5 @@
-//! The history of paths, for clients of today. Where one of these fails, a part of what it says was written.
+//! The history of paths and of the repository, for clients of today. Where one of these fails, a part of what it says was
+//! written.
 ghost use Rattle.machine.specs.Commands.{history_replies};
 ghost use Rattle.wire_replies.specs.Sinks.{Says};
 
@@ -7,10 +8,11 @@ use crate::{file_revisions, segments};
 use commands::HistoryCommand;
 use machine::Client;
 use repo_api::Repository;
+use session_replays::{say_replay, say_replay_range};
 use std::alloc::{AllocError, Global};
 use wire_replies::{ReplySink, say_made};
 
-/// Writes what a client of today is told of the history of a path.
+/// Writes what a client of today is told of the history of a path or of the repository.
 pub(crate) fn say_history<R: Repository, S: ReplySink>(
     alloc: Global,
     view: &R,
@@ -30,6 +32,10 @@ pub(crate) fn say_history<R: Repository, S: ReplySink>(
         }
         HistoryCommand::GetFileRevs(command) => {
             file_revisions::say_named(alloc, view, client, command, out)
+        }
+        HistoryCommand::Replay(command) => say_replay(alloc, view, client, command, out),
+        HistoryCommand::ReplayRange(command) => {
+            say_replay_range(alloc, view, client, command, out)
         }
     }
 }

@@ -1,0 +1,2 @@
+pub mod InTurn
+pub mod Judged
