@@ -11,8 +11,11 @@ pub enum ScriptFault {
     /// The line of this number, from 1 on, is not played.
     #[error("line {0}: {1}")]
     Line(usize, LineFault),
+    /// The line of this number, from 1 on, has another answer over the plain program of the definitions.
+    #[error("line {0}: the plain program answers otherwise")]
+    Differs(usize),
     /// The command line has other words than those that there are.
-    #[error("the words may be `--flat` or `--help`")]
+    #[error("the words may be `--flat`, `--both` or `--help`")]
     Words,
     /// The script is not read, or an answer is not written.
     #[error("{0}")]
@@ -25,7 +28,7 @@ impl ScriptFault {
         match self {
             ScriptFault::Line(_, LineFault::NoMemory) => ExitCode::FAILURE,
             ScriptFault::Line(_, _) | ScriptFault::Words => ExitCode::from(2),
-            ScriptFault::Stream(_) => ExitCode::FAILURE,
+            ScriptFault::Differs(_) | ScriptFault::Stream(_) => ExitCode::FAILURE,
         }
     }
 }

@@ -10,6 +10,8 @@ pub enum Order {
     Shared,
     /// A script is played over the plain program of the definitions.
     Flat,
+    /// A script is played over both, which have to give the same answers.
+    Both,
     /// How the program is called.
     Help,
 }
@@ -21,6 +23,7 @@ impl Order {
         for word in env::args(rt)?.skip(1) {
             order = match word.as_str() {
                 "--flat" => Order::Flat,
+                "--both" => Order::Both,
                 "--help" => Order::Help,
                 _ => return Err(ScriptFault::Words),
             };
