@@ -41,8 +41,8 @@ from spelling import (
     status,
     switch,
     target_revision,
+    text_over,
     update,
-    whole_text,
 )
 
 BAD_PATH, NO_REVISION, NOT_FOUND, NOT_SUPPORTED = 160005, 160006, 160013, 200007
@@ -560,8 +560,8 @@ class Drive:
     Right drives differ, and this is the one that the server chooses: what is told of an entry comes first, then its properties,
     then what is to be deleted, and then what else is in it, names by their bytes. Tokens are a letter and how many entries are
     open, so that a token comes again once what was open under it is closed.
-    An entry is opened with the revision at which it was reported, and deleted with none. A text is sent whole, its head and each
-    window in a chunk, without the digest of the text before. What changed nowhere but in the path of a mark is not named."""
+    An entry is opened with the revision at which it was reported, and deleted with none. A text is sent as a delta over what the
+    client has of it, its head and each window in a chunk, without the digest of the text before. What changed nowhere but in the path of a mark is not named."""
 
     def __init__(self, report):
         self.report = report
@@ -651,7 +651,7 @@ class Drive:
             return [close_file(token)]
         if not self.report.sends_texts:
             return [*delta(token, NO_TEXT), close_file(token)]
-        return [*delta(token, *whole_text(text)), close_file(token, digest(text))]
+        return [*delta(token, *text_over(old.text if old and old.text is not None else b"", text)), close_file(token, digest(text))]
 
 
 # What is right.

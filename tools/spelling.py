@@ -45,6 +45,9 @@ OF_PATHS = {160013, 160016, 160017, 160020, 160024, 160028, 160034, 160035, 1600
 
 # how many bytes of a text are sent in one string, and in one window of a drive
 PIECE = 65_536
+# how far the view of a window of a delta reaches to either side of it, in bytes, and how many bytes have to be copied by a delta
+REACH = 17_000
+WORTH = 64
 
 GREETING = b"( success ( 2 2 ( ) ( edit-pipeline absent-entries commit-revprops depth atomic-revprops ) ) ) "
 NO_LOGIN = b"( success ( ( ) 0: ) ) "
@@ -226,12 +229,13 @@ def file_revisions(path, start=None, end=None, rest=b""):
     return b"( get-file-revs ( " + string(path) + revision_or_none(start) + revision_or_none(end) + rest + b") ) "
 
 
-def file_revision(path, revision, properties, changes=(), text=None):
+def file_revision(path, revision, properties, changes=(), text=None, before=b""):
     """A revision of a file: its path there, which has a slash in front, the properties of the revision, what differs in those of
-    the file, each a name and a value, or None where it is gone, and its text, or None where that is the one sent before."""
+    the file, each a name and a value, or None where it is gone, and its text, or None where that is the one sent before, as a delta
+    over that one."""
     told = b"".join(b"( " + string(name) + optional(value) + b") " for name, value in changes)
     head = string(path) + b"%d " % revision + sorted_pairs(properties) + b"( " + told + b") false "
-    return b"( " + head + b") " + b"".join(map(string, [*([] if text is None else whole_text(text)), b""]))
+    return b"( " + head + b") " + b"".join(map(string, [*([] if text is None else text_over(before, text)), b""]))
 
 
 def file_revisions_told(*revisions):
@@ -598,6 +602,36 @@ def whole_text(text):
     """The chunks in which a drive sends a text: the head of its document, and each window."""
     pieces = [text[begin : begin + PIECE] for begin in range(0, len(text), PIECE)]
     return [NO_TEXT, *(document(piece)[len(NO_TEXT) :] for piece in pieces)]
+
+
+def alike(one, other):
+    """With how many bytes both begin."""
+    return next((at for at, (first, second) in enumerate(zip(one, other)) if first != second), min(len(one), len(other)))
+
+
+def sized(kind, length):
+    """The first bytes of an instruction: its kind and its length."""
+    return bytes([kind + length]) if length < 64 else bytes([kind]) + integer(length)
+
+
+def text_over(before, text):
+    """The chunks in which a delta from one text to another is sent: the head of its document, and each window. What both begin with
+    and what both end with is copied, where that is 64 bytes or more, and their ends where the texts are of nearly the same length. A
+    view reaches as far to either side as those may differ."""
+    front = alike(before, text)
+    behind = alike(before[: front - len(before) - 1 : -1], text[: front - len(text) - 1 : -1]) if abs(len(before) - len(text)) <= REACH else 0
+    if front + behind < WORTH:
+        return whole_text(text)
+    chunks = [NO_TEXT]
+    for begin in range(0, len(text), PIECE):
+        end = min(begin + PIECE, len(text))
+        first, last = max(min(end, front), begin), max(min(end, max(begin, len(text) - behind)), min(end, max(begin, front)))
+        view, view_end = min(len(before), max(0, begin - REACH)), min(len(before), end + REACH)
+        copies = [sized(0, first - begin) + integer(begin - view)] if first > begin else []
+        brings = [sized(128, last - first)] if last > first else []
+        ends = [sized(0, end - last) + integer(last + len(before) - len(text) - view)] if end > last else []
+        chunks.append(window(view, view_end - view, end - begin, b"".join(copies + brings + ends), text[first:last]))
+    return chunks
 
 
 def items(content):

@@ -9,17 +9,17 @@ use Rattle.repo_api.specs.{States.RepoState, Trees.Tree, declared.entry.Entry.En
 use Rattle.wire_edits.specs.declared.editing.EditorCommand.TheVariants.{CloseDirectory}
 use Rattle.drive_rules.specs.{Steps.{has_step, is_adding, is_entry_property, is_opening, Step}, Steps.EntryKind.DirectoryKind, Steps.Step.{AddAt, OpenAt}}
 use Rattle.drive_rules.proofs.{Joined.{and_front, named_append}, Trees.{in_scope, is_scope}}
-use Rattle.reporter.specs.{Own.{Change, property_steps, text_steps}, Visits.{entry_kind, kind_if, plan_steps, visit_steps}, Visits.Visit}
+use Rattle.reporter.specs.{Own.{Change, property_steps, text_steps}, Visits.{entry_kind, kind_if, plan_steps, visit_steps, Visit}}
 use Rattle.reporter.specs.Visits.Visit.{Open, Add, Delete, Close}
-use Rattle.drive_reports.specs.Reported.{reported_entries}
-use Rattle.drive_reports.specs.Targets.{WholeReport, client_tree, counted_entries, depth_inherited, drive_limit, target_entries, drive_scope, due_in, is_apart, is_hidden, old_tree, new_tree, stale_in}
+use Rattle.drive_reports.specs.{Reported.reported_entries, Targets.{WholeReport, client_tree, counted_entries, depth_inherited, drive_limit, target_entries}}
+use Rattle.drive_reports.specs.Targets.{drive_scope, due_in, is_apart, is_hidden, old_tree, new_tree, stale_in}
 use Rattle.drive_wire.specs.{EntryProperties.{entry_property, told_by, told}, Saying.Says}
 use Rattle.drive_wire.specs.Sent.{IsDrive, LeadsToTarget, TellsEach, base_of, or_no_text, enters, from_root, counts_of}
 use Rattle.drive_wire.proofs.{Joining.says_append, Writing.reads_close}
 use Rattle.drive_news.specs.{News.{news_at, news_steps, steps_if, own_steps_of, old_entry}, declared.news.News.News}
 use Rattle.drive_sides.specs.Plans.{IsPlan, from_top}
 use Rattle.drive_sending.specs.{Commands.{news_commands, news_told, root_commands, plan_commands, body_commands, drive_of}, Tokens.token_of}
-use Rattle.drive_sending.proofs.{Sending.IsSendable, Tokens.{entry_at, open_directories}, Entries.says_news}
+use Rattle.drive_sending.proofs.{Sending.IsSendable, Tokens.{entry_at, open_directories}, Entries.{GiveTexts, says_news}}
 use Rattle.drive_sending.proofs.{Plans.{says_plan, steps_told, news_silent, nothing_short}, Told.{own_news, other_news}}
 
 -- ---- which visits enter a path
@@ -217,16 +217,16 @@ module _ (c : RepoState) (report : WholeReport) where
   abbrev Body : List Visit → List Step
   Body vs = (if same_path report.ask.target [] then own_steps_of c report [] false else []) ++ Steps vs
 
-  says_root : RootStands → Says report.ask.purpose Top Base (open_directories ([] ∷ [])) (root_commands c report) (if same_path report.ask.target [] then own_steps_of c report [] false else []) (open_directories ([] ∷ []))
-  says_root root = by (same_path report.ask.target []) refl
+  says_root : GiveTexts → RootStands → Says report.ask.purpose Top Base (open_directories ([] ∷ [])) (root_commands c report) (if same_path report.ask.target [] then own_steps_of c report [] false else []) (open_directories ([] ∷ []))
+  says_root give root = by (same_path report.ask.target []) refl
     where
       by : (b : Bool) → same_path report.ask.target [] ≡ b
-          → Says report.ask.purpose Top Base (open_directories ([] ∷ [])) (if b then news_commands report.ask.purpose DirectoryKind (token_of DirectoryKind 0) (news_told c report [] false) else []) (if b then own_steps_of c report [] false else []) (open_directories ([] ∷ []))
+          → Says report.ask.purpose Top Base (open_directories ([] ∷ [])) (if b then news_commands report.ask.purpose DirectoryKind (token_of DirectoryKind 0) [] (news_told c report [] false) else []) (if b then own_steps_of c report [] false else []) (open_directories ([] ∷ []))
       by true h =
           let silent : (news_told c report [] false).text ≡ None = news_silent c report [] false (New []) (root h).1 in
-          subst (λ s. Says report.ask.purpose Top Base (open_directories ([] ∷ [])) (news_commands report.ask.purpose DirectoryKind (token_of DirectoryKind 0) (news_told c report [] false)) s (open_directories ([] ∷ [])))
+          subst (λ s. Says report.ask.purpose Top Base (open_directories ([] ∷ [])) (news_commands report.ask.purpose DirectoryKind (token_of DirectoryKind 0) [] (news_told c report [] false)) s (open_directories ([] ∷ [])))
           (sym (steps_told [] (option_map (news_at c report [] false) (New []))))
-          (says_news Top Base report.ask.purpose DirectoryKind [] [] [] (news_told c report [] false) (λ _. refl) (λ _. silent)
+          (says_news Top Base report.ask.purpose give DirectoryKind [] [] [] (news_told c report [] false) (λ _. refl) (λ _. silent)
           (subst (λ t. length (or_no_text t) ≤ limit) (sym silent) nothing_short) (λ _. ap or_no_text silent))
       by false h = (refl, refl)
 
@@ -245,8 +245,8 @@ module _ (c : RepoState) (report : WholeReport) where
       by true h = All-cons Stands (Open [] true) vs (root h).0 all
       by false h = all
 
-  pub is_drive : (vs : List Visit) → All (IsSendable New) vs → RootStands → IsPlan c report vs → IsDrive c report (drive_of c report vs)
-  is_drive vs sendable root plan = record {
+  pub is_drive : GiveTexts → (vs : List Visit) → All (IsSendable New) vs → RootStands → IsPlan c report vs → IsDrive c report (drive_of c report vs)
+  is_drive give vs sendable root plan = record {
     root = token_of DirectoryKind 0;
     commands = body_commands c report vs;
     is = refl;
@@ -263,12 +263,12 @@ module _ (c : RepoState) (report : WholeReport) where
       visited =
           subst (λ s. Says report.ask.purpose Top Base (open_directories ([] ∷ [])) (plan_commands c report 0 vs ++ CloseDirectory (token_of DirectoryKind 0) ∷ []) s []) (append-nil (Steps vs))
           (says_append report.ask.purpose Top Base (open_directories ([] ∷ [])) (open_directories ([] ∷ [])) [] (plan_commands c report 0 vs) (CloseDirectory (token_of DirectoryKind 0) ∷ []) (Steps vs) []
-          (says_plan c report vs [] [] ([] ∷ []) sendable (plan.nests [])) closed)
+          (says_plan c report give vs [] [] ([] ∷ []) sendable (plan.nests [])) closed)
 
       says : Says report.ask.purpose Top Base (open_directories ([] ∷ [])) (body_commands c report vs) (Body vs) []
       says =
           says_append report.ask.purpose Top Base (open_directories ([] ∷ [])) (open_directories ([] ∷ [])) [] (root_commands c report) (plan_commands c report 0 vs ++ CloseDirectory (token_of DirectoryKind 0) ∷ [])
-          (if same_path report.ask.target [] then own_steps_of c report [] false else []) (Steps vs) (says_root root) visited
+          (if same_path report.ask.target [] then own_steps_of c report [] false else []) (Steps vs) (says_root give root) visited
 
       right : LeadsToTarget c report (Steps (from_top report.ask vs))
       right =

@@ -1,6 +1,6 @@
 -- Where there is no target, a directory is to stand at the root of a drive.
-use Rattle.std.proofs.Common.{◌≡◌, ℕ, inr, List, Bool, true, false, ◌&&◌, ◌||◌, [], length, drop, Option, Some, None, refl, sym, ap, ◌∙◌, subst}
-use Rattle.std.proofs.{Common.if◌then◌else◌, lemmas.Bool.false≢true}
+use Rattle.std.proofs.Common.{◌≡◌, ℕ, inr, List, Bool, true, false, ◌&&◌, ◌||◌, [], length, drop, Option, Some, None, refl, sym, ap, ◌∙◌, subst, if◌then◌else◌}
+use Rattle.std.proofs.lemmas.Bool.{false≢true}
 use Rattle.repo_api.specs.{Soundness.AreTrees, States.{RepoState, trees_in}, Trees.is_directory_there, declared.entry.Entry.Entry}
 use Rattle.std.specs.Prelude.{Result, Ok, Err, ok_or, is_some}
 use Rattle.svnpath.specs.{PathLaws.same_path_is, Paths.{is_at_or_under, PathValue, same_path}}
@@ -8,17 +8,18 @@ use Rattle.refusals.specs.declared.Refusal.{Refusal}
 use Rattle.refusals.specs.declared.Refusal.TheVariants as refusals
 use Rattle.drive_rules.specs.{Scopes.{stays_in_scope, top_limit}, Steps.EntryKind.DirectoryKind}
 use Rattle.drive_rules.proofs.Joined.{and_front}
-use Rattle.reporter.specs.{Visits.{entry_kind, kind_if}, Visits.Visit}
-use Rattle.drive_reports.specs.{Named.{IsNamed, AreNamed}, Refusing.{◌>>=◌, ok_if, OpenState, has_goal, has_anchor, finish_root}}
-use Rattle.drive_reports.specs.{Aims.aim_at, Reported.{has_directory}, Targets.{WholeReport, counted_entries, depth_inherited, drive_limit, is_hidden, reported_tree, target_entries, new_tree}}
-use Rattle.drive_reports.proofs.Aiming.{root_entry}
+use Rattle.reporter.specs.Visits.{entry_kind, kind_if, Visit}
+use Rattle.drive_reports.specs.{Named.{IsNamed, AreNamed}, Refusing.{◌>>=◌, ok_if, OpenState, has_goal, has_anchor, finish_root}, Aims.aim_at}
+use Rattle.drive_reports.specs.Reported.{has_directory}
+use Rattle.drive_reports.specs.Targets.{WholeReport, counted_entries, depth_inherited, drive_limit, is_hidden, reported_tree, target_entries, new_tree}
 use Rattle.drive_reports.specs.declared.report.ReportRoot.{ReportRoot}
+use Rattle.drive_reports.proofs.Aiming.{root_entry}
 use Rattle.drive_sides.specs.Plans.{whole, IsPlan}
 use Rattle.wire_edits.specs.declared.editing.EditorCommand.{EditorCommand}
 use Rattle.wire_replies.specs.Sinks.{Says}
 use Rattle.drive_wire.specs.Sent.{IsDrive}
 use Rattle.drive_sending.specs.{Commands.drive_of, Driving.{drive_replies, SaysDrive}}
-use Rattle.drive_sending.proofs.{Sending.plan_sendable, Drives.{RootStands, is_drive}}
+use Rattle.drive_sending.proofs.{Entries.GiveTexts, Sending.plan_sendable, Drives.{RootStands, is_drive}}
 
 judged : (o : Option ReportRoot) (b : Bool) (root : ReportRoot) → ((ok_or o refusals.MalformedData) >>= (λ r. (ok_if b refusals.NotFound) >>= (λ _. Ok r))) ≡ Ok root → b ≡ true
 judged None b root e = absurd (err_is_ok e)
@@ -74,8 +75,8 @@ module _ (c : RepoState) (report : OpenState) (root : ReportRoot) where
       (anchored none (and_behind (has_goal c report.ask report.ask.purpose) (has_anchor c report.ask report.grafts) (judged report.root (has_goal c report.ask report.ask.purpose && has_anchor c report.ask report.grafts) root finished))))
 
   -- the drive of a plan may be sent
-  pub drive_may_be_sent : (vs : List Visit) → AreTrees c.revisions → IsNamed report.ask.target → AreNamed report.grafts → finish_root c report ≡ Ok root → IsPlan c Whole vs → IsDrive c Whole (drive_of c Whole vs)
-  drive_may_be_sent vs trees target grafts finished plan = is_drive c Whole vs (plan_sendable c Whole trees target grafts vs plan) (root_stands finished) plan
+  pub drive_may_be_sent : GiveTexts → (vs : List Visit) → AreTrees c.revisions → IsNamed report.ask.target → AreNamed report.grafts → finish_root c report ≡ Ok root → IsPlan c Whole vs → IsDrive c Whole (drive_of c Whole vs)
+  drive_may_be_sent give vs trees target grafts finished plan = is_drive c Whole give vs (plan_sendable c Whole trees target grafts vs plan) (root_stands finished) plan
 
 -- a drive that may be sent, as far as it is written
 pub drive_said : {T E : Type 0} (r : Result T E) (writes : List ℕ → Type 0) (c : RepoState) (report : WholeReport) (drive : List EditorCommand) → IsDrive c

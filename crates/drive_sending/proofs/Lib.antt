@@ -8,4 +8,5 @@ pub mod Drives
 pub mod Finished
 pub mod Written
 pub mod Roots
+pub mod Before
 pub mod Visited

@@ -11,18 +11,17 @@ use Rattle.wire_forms.specs.Forms.{is_name}
 use Rattle.wire_edits.specs.declared.editing.EditorCommand.{EditorCommand}
 use Rattle.drive_rules.specs.{Places.is_in_directory, Steps.{EntryKind, Step}, Steps.EntryKind.{DirectoryKind, FileKind}, Steps.Step.{AddAt, DeleteAt, OpenAt}}
 use Rattle.drive_rules.proofs.Joined.{and_front}
-use Rattle.reporter.specs.{Nesting.{stands_as, walk}, Visits.{entry_kind, kind_if, plan_steps}, Visits.Visit}
-use Rattle.reporter.specs.Visits.Visit.{Open, Add, Delete, Close}
+use Rattle.reporter.specs.{Nesting.{stands_as, walk}, Visits.{entry_kind, kind_if, plan_steps, Visit}, Visits.Visit.{Open, Add, Delete, Close}}
 use Rattle.drive_reports.specs.{Targets.{WholeReport, old_tree, new_tree}, declared.ask.Purpose.Purpose}
 use Rattle.drive_reports.specs.declared.ask.Purpose.TheVariants.{Update, Switch, Status, Diff, Summary}
 use Rattle.drive_wire.specs.Saying as saying
 use Rattle.drive_wire.specs.{Saying.{Says, steps_said, is_in_place, when, is_open_token}, Sent.{base_of, or_no_text}}
 use Rattle.drive_wire.proofs.{Joining.says_append, Writing.{reads_entry, reads_close}}
 use Rattle.drive_news.specs.{News.{news_at, news_steps, steps_if, own_steps_of, other_text, text_sent, old_entry}, declared.news.News.News}
-use Rattle.drive_sending.specs.Commands.{open_command, add_command, opened_entry, added_entry, news_commands, news_told, or_no_news, plan_commands, deeper_by}
-use Rattle.drive_sending.specs.Tokens.{token_of}
+use Rattle.drive_sending.specs.Commands.{open_command, add_command, opened_entry, added_entry, news_commands, news_told, or_no_news, text_had, plan_commands}
+use Rattle.drive_sending.specs.{Commands.deeper_by, Tokens.token_of}
 use Rattle.drive_sending.proofs.{Spelled.IsSpelledPath, Sending.{IsTellable, IsSendable}, Tokens.{entry_at, open_directories, grown, none_open}}
-use Rattle.drive_sending.proofs.Entries.{IsTextSent, after_entry, says_news}
+use Rattle.drive_sending.proofs.Entries.{GiveTexts, IsTextSent, after_entry, same_over, says_news}
 
 -- ---- where a walk goes on
 
@@ -122,6 +121,10 @@ module _ (c : RepoState) (report : WholeReport) where
   bare DirectoryKind p e = refl
   bare FileKind p e = absurd (false≢true (ap is_directory_kind e))
 
+  based : (kind : EntryKind) (p : PathValue) → kind ≡ FileKind → base_at kind p ≡ Base p
+  based DirectoryKind p e = absurd (false≢true (ap is_directory_kind (sym e)))
+  based FileKind p e = refl
+
   reads_open : (kind : EntryKind) (d : PathValue) (ds : List PathValue) (p : PathValue) → is_in_directory Top d p ≡ true → IsSpelledPath p
       → steps_said report.ask.purpose Top Base (open_directories (d ∷ ds)) (open_command kind (opened_entry c report (length ds) p kind))
       ≡ Some (OpenAt p kind ∷ [], entry_at kind (length ds + 1) p (base_at kind p) ∷ open_directories (d ∷ ds))
@@ -151,23 +154,27 @@ module _ (c : RepoState) (report : WholeReport) where
   SaysPlan ds around vs end = Says report.ask.purpose Top Base (open_directories ds) (plan_commands c report around vs) (plan_steps (own_steps_of c report) vs) (open_directories end)
 
   -- an entry, and what comes behind it
-  with_entry : (kind : EntryKind) (first : EditorCommand) (step : Step) (own : List ℕ) (news : News) (d : PathValue) (ds : List PathValue) (p : PathValue) (vs : List Visit) (end : List PathValue)
+  with_entry : GiveTexts → (kind : EntryKind) (first : EditorCommand) (step : Step) (own base : List ℕ) (news : News) (d : PathValue) (ds : List PathValue) (p : PathValue) (vs : List Visit) (end : List PathValue)
       → steps_said report.ask.purpose Top Base (open_directories (d ∷ ds)) first ≡ Some (step ∷ [], entry_at kind (length ds + 1) p own ∷ open_directories (d ∷ ds))
-      → (kind ≡ DirectoryKind → own ≡ []) → (kind ≡ DirectoryKind → news.text ≡ None) → length (or_no_text news.text) ≤ limit → IsTextSent report.ask.purpose news.text
+      → (kind ≡ FileKind → own ≡ base) → (kind ≡ DirectoryKind → own ≡ []) → (kind ≡ DirectoryKind → news.text ≡ None) → length (or_no_text news.text) ≤ limit
+      → IsTextSent report.ask.purpose news.text
       → SaysPlan (after_entry kind p (d ∷ ds)) (deeper_by kind (length ds)) vs end
       → Says report.ask.purpose Top Base (open_directories (d ∷ ds))
-      ((first ∷ news_commands report.ask.purpose kind (token_of kind (length ds + 1)) news) ++ plan_commands c report (deeper_by kind (length ds)) vs)
+      ((first ∷ news_commands report.ask.purpose kind (token_of kind (length ds + 1)) base news) ++ plan_commands c report (deeper_by kind (length ds)) vs)
       ((step ∷ news_steps p news) ++ plan_steps (own_steps_of c report) vs) (open_directories end)
-  with_entry kind first step own news d ds p vs end said bare quiet short sent rest =
+  with_entry give kind first step own base news d ds p vs end said same bare quiet short sent rest =
       says_append report.ask.purpose Top Base (open_directories (d ∷ ds)) (open_directories (after_entry kind p (d ∷ ds))) (open_directories end)
-      (first ∷ news_commands report.ask.purpose kind (token_of kind (length ds + 1)) news) (plan_commands c report (deeper_by kind (length ds)) vs)
+      (first ∷ news_commands report.ask.purpose kind (token_of kind (length ds + 1)) base news) (plan_commands c report (deeper_by kind (length ds)) vs)
       (step ∷ news_steps p news) (plan_steps (own_steps_of c report) vs)
       (step ∷ [], entry_at kind (length ds + 1) p own ∷ open_directories (d ∷ ds), news_steps p news, said, inner, refl) rest
     where
-      inner : Says report.ask.purpose Top Base (entry_at kind (length ds + 1) p own ∷ open_directories (d ∷ ds)) (news_commands report.ask.purpose kind (token_of kind (length ds + 1)) news) (news_steps p news) (open_directories (after_entry kind p (d ∷ ds)))
+      inner : Says report.ask.purpose Top Base (entry_at kind (length ds + 1) p own ∷ open_directories (d ∷ ds)) (news_commands report.ask.purpose kind (token_of kind (length ds + 1)) base news) (news_steps p news) (open_directories (after_entry kind p (d ∷ ds)))
       inner =
-          subst (λ n. Says report.ask.purpose Top Base (entry_at kind n p own ∷ open_directories (d ∷ ds)) (news_commands report.ask.purpose kind (token_of kind n) news) (news_steps p news) (open_directories (after_entry kind p (d ∷ ds))))
-          (grown d ds) (says_news Top Base report.ask.purpose kind (d ∷ ds) p own news bare quiet short sent)
+          subst (λ n. Says report.ask.purpose Top Base (entry_at kind n p own ∷ open_directories (d ∷ ds)) (news_commands report.ask.purpose kind (token_of kind n) base news) (news_steps p news) (open_directories (after_entry kind p (d ∷ ds))))
+          (grown d ds)
+          (subst (λ (cs : List EditorCommand). Says report.ask.purpose Top Base (entry_at kind (length (d ∷ ds)) p own ∷ open_directories (d ∷ ds)) cs (news_steps p news) (open_directories (after_entry kind p (d ∷ ds))))
+          (same_over report.ask.purpose kind (token_of kind (length (d ∷ ds))) own base news same)
+          (says_news Top Base report.ask.purpose give kind (d ∷ ds) p own news bare quiet short sent))
 
   -- what comes behind an entry: below a directory, or beside a file
   goes_below : (kind : EntryKind) (d : PathValue) (ds : List PathValue) (p : PathValue) (vs : List Visit) (end : List PathValue)
@@ -178,36 +185,36 @@ module _ (c : RepoState) (report : WholeReport) where
   goes_below DirectoryKind d ds p vs end deep flat w = subst (λ n. SaysPlan (p ∷ d ∷ ds) n vs end) (grown d ds) (deep w)
   goes_below FileKind d ds p vs end deep flat w = flat w
 
-  pub says_plan : (vs : List Visit) (d : PathValue) (ds end : List PathValue) → All (IsSendable New) vs
+  pub says_plan : GiveTexts → (vs : List Visit) (d : PathValue) (ds end : List PathValue) → All (IsSendable New) vs
       → walk New Top (d ∷ ds) vs ≡ Some end → SaysPlan (d ∷ ds) (length ds) vs end
-  says_plan [] d ds end sendable walked = (refl, ap open_directories (sym (same_Some (d ∷ ds) end walked)))
-  says_plan (Open p directory ∷ vs) d ds end sendable walked =
+  says_plan give [] d ds end sendable walked = (refl, ap open_directories (sym (same_Some (d ∷ ds) end walked)))
+  says_plan give (Open p directory ∷ vs) d ds end sendable walked =
       let kind = kind_if directory in
       let tellable : IsTellable New p directory = All-head (IsSendable New) (Open p directory) vs sendable in
       let on = goes_on (is_in_directory Top d p && stands_as directory (New p)) (if directory then p ∷ d ∷ ds else d ∷ ds) (λ mid. walk New Top mid vs) end walked in
       subst (λ s. Says report.ask.purpose Top Base (open_directories (d ∷ ds)) (plan_commands c report (length ds) (Open p directory ∷ vs)) ((OpenAt p kind ∷ s) ++ plan_steps (own_steps_of c report) vs) (open_directories end))
       (sym (steps_told p (option_map (news_at c report p false) (New p))))
-      (with_entry kind (open_command kind (opened_entry c report (length ds) p kind)) (OpenAt p kind) (base_at kind p) (news_told c report p false) d ds p vs end
+      (with_entry give kind (open_command kind (opened_entry c report (length ds) p kind)) (OpenAt p kind) (base_at kind p) (text_had c report p false) (news_told c report p false) d ds p vs end
       (reads_open kind d ds p (and_front (is_in_directory Top d p) (stands_as directory (New p)) on.0) tellable.spelled)
-      (bare kind p) (λ is. news_silent p false (New p) (tellable.kind ∙ is)) (news_short p false (New p) tellable.short) (news_sent p false (New p))
+      (based kind p) (bare kind p) (λ is. news_silent p false (New p) (tellable.kind ∙ is)) (news_short p false (New p) tellable.short) (news_sent p false (New p))
       (goes_below kind d ds p vs end
-      (λ w. says_plan vs p (d ∷ ds) end (All-tail (IsSendable New) (Open p directory) vs sendable) w)
-      (λ w. says_plan vs d ds end (All-tail (IsSendable New) (Open p directory) vs sendable) w)
+      (λ w. says_plan give vs p (d ∷ ds) end (All-tail (IsSendable New) (Open p directory) vs sendable) w)
+      (λ w. says_plan give vs d ds end (All-tail (IsSendable New) (Open p directory) vs sendable) w)
       (ap (λ mid. walk New Top mid vs) (sym (by_kind directory p (d ∷ ds))) ∙ on.1)))
-  says_plan (Add p directory ∷ vs) d ds end sendable walked =
+  says_plan give (Add p directory ∷ vs) d ds end sendable walked =
       let kind = kind_if directory in
       let tellable : IsTellable New p directory = All-head (IsSendable New) (Add p directory) vs sendable in
       let on = goes_on (is_in_directory Top d p && stands_as directory (New p)) (if directory then p ∷ d ∷ ds else d ∷ ds) (λ mid. walk New Top mid vs) end walked in
       subst (λ s. Says report.ask.purpose Top Base (open_directories (d ∷ ds)) (plan_commands c report (length ds) (Add p directory ∷ vs)) ((AddAt p kind ∷ s) ++ plan_steps (own_steps_of c report) vs) (open_directories end))
       (sym (steps_told p (option_map (news_at c report p true) (New p))))
-      (with_entry kind (add_command kind (added_entry (length ds) p kind)) (AddAt p kind) [] (news_told c report p true) d ds p vs end
+      (with_entry give kind (add_command kind (added_entry (length ds) p kind)) (AddAt p kind) [] (text_had c report p true) (news_told c report p true) d ds p vs end
       (reads_add kind d ds p (and_front (is_in_directory Top d p) (stands_as directory (New p)) on.0) tellable.spelled)
-      (λ _. refl) (λ is. news_silent p true (New p) (tellable.kind ∙ is)) (news_short p true (New p) tellable.short) (news_sent p true (New p))
+      (λ _. refl) (λ _. refl) (λ is. news_silent p true (New p) (tellable.kind ∙ is)) (news_short p true (New p) tellable.short) (news_sent p true (New p))
       (goes_below kind d ds p vs end
-      (λ w. says_plan vs p (d ∷ ds) end (All-tail (IsSendable New) (Add p directory) vs sendable) w)
-      (λ w. says_plan vs d ds end (All-tail (IsSendable New) (Add p directory) vs sendable) w)
+      (λ w. says_plan give vs p (d ∷ ds) end (All-tail (IsSendable New) (Add p directory) vs sendable) w)
+      (λ w. says_plan give vs d ds end (All-tail (IsSendable New) (Add p directory) vs sendable) w)
       (ap (λ mid. walk New Top mid vs) (sym (by_kind directory p (d ∷ ds))) ∙ on.1)))
-  says_plan (Delete p ∷ vs) d ds end sendable walked =
+  says_plan give (Delete p ∷ vs) d ds end sendable walked =
       let spelled : IsSpelledPath p = All-head (IsSendable New) (Delete p) vs sendable in
       let on = goes_on (is_in_directory Top d p) (d ∷ ds) (λ mid. walk New Top mid vs) end walked in (
         DeleteAt p ∷ [],
@@ -215,16 +222,16 @@ module _ (c : RepoState) (report : WholeReport) where
         plan_steps (own_steps_of c report) vs,
         ap (λ q. when (is_in_place Top (open_directories (d ∷ ds)) q (token_of DirectoryKind (length ds))) (DeleteAt q ∷ []) (open_directories (d ∷ ds))) spelled
             ∙ ap (λ b. when b (DeleteAt p ∷ []) (open_directories (d ∷ ds))) (placed d ds p on.0),
-        says_plan vs d ds end (All-tail (IsSendable New) (Delete p) vs sendable) on.1,
+        says_plan give vs d ds end (All-tail (IsSendable New) (Delete p) vs sendable) on.1,
         refl,
       )
-  says_plan (Close ∷ vs) d [] end sendable walked = absurd (none-some end walked)
-  says_plan (Close ∷ vs) d (e ∷ ds) end sendable walked = (
+  says_plan give (Close ∷ vs) d [] end sendable walked = absurd (none-some end walked)
+  says_plan give (Close ∷ vs) d (e ∷ ds) end sendable walked = (
     [],
     open_directories (e ∷ ds),
     plan_steps (own_steps_of c report) vs,
     reads_close report.ask.purpose Top Base (entry_at DirectoryKind (length (e ∷ ds)) d []) (open_directories (e ∷ ds)) refl,
     subst (λ n. SaysPlan (e ∷ ds) n vs end) (shrunk (length (e ∷ ds)) (length ds) (grown e ds))
-        (says_plan vs e ds end (All-tail (IsSendable New) Close vs sendable) walked),
+        (says_plan give vs e ds end (All-tail (IsSendable New) Close vs sendable) walked),
     refl,
   )

@@ -9,7 +9,7 @@ use Rattle.drive_sending.specs.{Commands.{news_commands, news_told, root_command
 
 -- without a target the root is told its news
 pub root_told : (c : RepoState) (report : WholeReport) (news : News) → report.ask.target ≡ [] → news ≡ news_told c report report.ask.target false
-    → news_commands report.ask.purpose DirectoryKind (token_of DirectoryKind 0) news ≡ root_commands c report
+    → news_commands report.ask.purpose DirectoryKind (token_of DirectoryKind 0) [] news ≡ root_commands c report
 root_told c report news none is =
-    ap (news_commands report.ask.purpose DirectoryKind (token_of DirectoryKind 0)) (is ∙ ap (λ t. news_told c report t false) none)
-    ∙ sym (ap (λ b. if b then news_commands report.ask.purpose DirectoryKind (token_of DirectoryKind 0) (news_told c report [] false) else []) (ap (λ t. same_path t []) none))
+    ap (news_commands report.ask.purpose DirectoryKind (token_of DirectoryKind 0) []) (is ∙ ap (λ t. news_told c report t false) none)
+    ∙ sym (ap (λ b. if b then news_commands report.ask.purpose DirectoryKind (token_of DirectoryKind 0) [] (news_told c report [] false) else []) (ap (λ t. same_path t []) none))

@@ -1,21 +1,21 @@
 -- The commands of a plan.
-use Rattle.std.specs.Prelude.{◌+◌, ◌-◌, zero, suc, ℕ, Bool, true, false, List, [], ◌∷◌, ◌++◌, length, map, take, drop, Option, Some, None, option_map}
-use Rattle.std.specs.{Prelude.if◌then◌else◌, Int.div_ceil}
+use Rattle.std.specs.Prelude.{◌≡◌, ◌+◌, ◌-◌, ℕ, Bool, true, false, List, [], ◌∷◌, ◌++◌, map, Option, Some, None, option_map, if◌then◌else◌}
 use Rattle.hex.specs.Hex.{encode_lower}
 use Rattle.md5.specs.Md5.{md5}
 use Rattle.svnpath.specs.Paths.{PathValue, same_path}
-use Rattle.svndiff0.specs.{Document.header, Full.full_window}
-use Rattle.repo_api.specs.States.{RepoState}
+use Rattle.text_deltas.specs.Deltas.{delta_chunks}
+use Rattle.repo_api.specs.{States.RepoState, Trees.text_of}
 use Rattle.wire_edits.specs.{declared.editing.AddedEntry.AddedEntry, declared.editing.DeletedEntry.DeletedEntry, declared.editing.EditorCommand.EditorCommand}
 use Rattle.wire_edits.specs.declared.editing.EditorCommand.TheVariants.{DeleteEntry, AddDirectory, AddFile, OpenDirectory, OpenFile, ChangeDirectoryProperty}
-use Rattle.wire_edits.specs.declared.editing.EditorCommand.TheVariants.{ChangeFileProperty, ApplyTextDelta, TextDeltaChunk, TextDeltaEnd, CloseDirectory}
-use Rattle.wire_edits.specs.{declared.editing.EditorCommand.TheVariants.CloseFile, declared.editing.OpenedEntry.OpenedEntry}
+use Rattle.wire_edits.specs.declared.editing.EditorCommand.TheVariants.{ChangeFileProperty, CloseDirectory, CloseFile}
+use Rattle.wire_edits.specs.declared.editing.OpenedEntry.{OpenedEntry}
 use Rattle.drive_rules.specs.{Steps.EntryKind, Steps.EntryKind.{DirectoryKind, FileKind}}
-use Rattle.reporter.specs.{Own.Change, Visits.kind_if, Visits.Visit, Visits.Visit.{Open, Add, Delete, Close}}
-use Rattle.drive_reports.specs.{Targets.{WholeReport, client_tree, new_tree}, declared.ask.Purpose.Purpose}
+use Rattle.reporter.specs.{Own.Change, Visits.{kind_if, Visit}, Visits.Visit.{Open, Add, Delete, Close}}
+use Rattle.drive_reports.specs.{Targets.{WholeReport, client_tree, new_tree, old_tree}, declared.ask.Purpose.Purpose}
 use Rattle.drive_reports.specs.declared.ask.Purpose.TheVariants.{Update, Switch, Status, Diff, Summary}
-use Rattle.drive_wire.specs.Sent.{framed}
-use Rattle.drive_news.specs.{News.news_at, declared.news.News.News}
+use Rattle.drive_wire.specs.Sent.{framed, or_no_text}
+use Rattle.drive_news.specs.{News.{news_at, old_entry}, declared.news.News.News}
+use Rattle.wire_deltas.specs.Texts.{text_commands}
 use Rattle.drive_sending.specs.Tokens.{token_of, relative_text}
 
 -- ---- what is told of an entry
@@ -27,21 +27,10 @@ property_command DirectoryKind token change =
 property_command FileKind token change =
     ChangeFileProperty (record { token = token; name = change.0; value = change.1 })
 
--- so many windows of 65,536 bytes, the last shorter where the text ends
-abbrev pub windows : ℕ → List ℕ → List (List ℕ)
-windows zero text = []
-windows (suc n) text = full_window (take 65536 text) ∷ windows n (drop 65536 text)
-
--- the chunks of a text's document: the header, and each window
-abbrev pub chunks : List ℕ → List (List ℕ)
-chunks text = header ∷ windows (div_ceil (length text) 65536) text
-
--- a text, sent whole
-abbrev pub text_commands : List ℕ → Option (List ℕ) → List EditorCommand
-text_commands token None = []
-text_commands token (Some text) =
-    ApplyTextDelta token None
-    ∷ (map (TextDeltaChunk token) (chunks text) ++ TextDeltaEnd token ∷ [])
+-- a text, if it is sent: as a delta that leads to it from the text that the client has
+abbrev pub sent_commands : List ℕ → List ℕ → Option (List ℕ) → List EditorCommand
+sent_commands token base None = []
+sent_commands token base (Some text) = text_commands token (delta_chunks base text)
 
 -- the MD5 of a text, as digits
 abbrev pub digits_of : List ℕ → List ℕ
@@ -55,13 +44,14 @@ checksum_sent Status text = None
 checksum_sent Diff text = option_map digits_of text
 checksum_sent Summary text = None
 
--- what is told of an entry that was entered under a token; a file is closed at once
-abbrev pub news_commands : Purpose → EntryKind → List ℕ → News → List EditorCommand
-news_commands purpose DirectoryKind token news =
+-- what is told of an entry that was entered under a token, over the text that the client has; a
+-- file is closed at once
+abbrev pub news_commands : Purpose → EntryKind → List ℕ → List ℕ → News → List EditorCommand
+news_commands purpose DirectoryKind token base news =
     map (property_command DirectoryKind token) news.changes
-news_commands purpose FileKind token news =
+news_commands purpose FileKind token base news =
     map (property_command FileKind token) news.changes
-    ++ (text_commands token news.text
+    ++ (sent_commands token base news.text
     ++ CloseFile token (checksum_sent purpose news.text) ∷ [])
 
 -- the news, or none
@@ -72,6 +62,14 @@ or_no_news (Some news) = news
 -- the news of what the client is to have at a path
 abbrev pub news_told : RepoState → WholeReport → PathValue → Bool → News
 news_told c report p anew = or_no_news (option_map (news_at c report p anew) (new_tree c report p))
+
+-- the text that the client has at a path, of no bytes where the entry comes anew
+abbrev pub text_had : RepoState → WholeReport → PathValue → Bool → List ℕ
+text_had c report p anew = or_no_text (text_of (old_entry anew (old_tree c report) p))
+
+-- over the one text the news are what they are over the other: it is the same, or no text is sent
+abbrev pub IsSentOver : News → List ℕ → List ℕ → Type 0
+IsSentOver news base other = (text : List ℕ) → news.text ≡ Some text → base ≡ other
 
 -- ---- visits
 
@@ -119,12 +117,12 @@ visit_commands c report around (Open p directory) =
     let kind = kind_if directory in
     open_command kind (opened_entry c report around p kind)
     ∷ news_commands report.ask.purpose kind (token_of kind (around + 1))
-    (news_told c report p false)
+    (text_had c report p false) (news_told c report p false)
 visit_commands c report around (Add p directory) =
     let kind = kind_if directory in
     add_command kind (added_entry around p kind)
     ∷ news_commands report.ask.purpose kind (token_of kind (around + 1))
-    (news_told c report p true)
+    (text_had c report p true) (news_told c report p true)
 visit_commands c report around (Delete p) = DeleteEntry (deleted_entry around p) ∷ []
 visit_commands c report around Close = CloseDirectory (token_of DirectoryKind around) ∷ []
 
@@ -154,7 +152,7 @@ abbrev pub root_commands : RepoState → WholeReport → List EditorCommand
 root_commands c report =
     if same_path report.ask.target []
     then news_commands report.ask.purpose DirectoryKind (token_of DirectoryKind 0)
-    (news_told c report [] false)
+    [] (news_told c report [] false)
     else []
 
 -- the commands of a plan, from the open root on to its close

@@ -17,6 +17,7 @@ use drive_reports::{Grafts, OpenReport, ReportRoot};
 use drive_sides::{DriveVisitor, TwoTrees, visitor};
 use repo_api::Repository;
 use std::alloc::{AllocError, Global};
+use text_deltas::deltas_give_the_text;
 use wire_edits::EditorCommand;
 use wire_replies::{Reply, ReplySink, say_new};
 
@@ -152,5 +153,6 @@ pub fn say_drive<R: Repository, S: ReplySink>(
     let trees = TwoTrees { view, report, root };
     let mut visitor = visitor(alloc, &trees)?;
     report.are_named();
+    deltas_give_the_text();
     say_planned(alloc, &trees, &mut visitor, out)
 }

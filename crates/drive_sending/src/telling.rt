@@ -1,5 +1,6 @@
 //! What entries are told. Where one of these fails, a part of what it says was written.
-ghost use Rattle.std.specs.Prelude.{◌≡◌, ◌<◌, ◌+◌, ◌^◌, map};
+ghost use Rattle.std.specs.Prelude.{◌≡◌, ◌<◌, ◌+◌, ◌^◌, ℕ, List, [], map, option_copied};
+ghost use Rattle.wire_deltas.specs.Texts.{text_or_empty};
 ghost use Rattle.reporter.specs.Visits.{kind_if};
 ghost use Rattle.drive_sending.specs.{Commands.{property_command, news_commands, or_no_news}, Driving.Sends, Tokens.token_of};
 ghost use Rattle.wire_replies.specs.Made.{Makes};
@@ -8,10 +9,9 @@ ghost use Rattle.drive_reports.specs.declared.ask.Purpose.{Purpose};
 
 use crate::naming::token;
 use crate::saying::say_made;
-use crate::texts::say_file_end;
+use crate::texts::{Basis, say_file_end};
 use byte_string::ByteString;
 use drive_news::{News, PropertyChanges};
-use drive_reports::Purpose;
 use repo_api::PropertyValue;
 use sequence::Sequence;
 use std::alloc::{AllocError, Global};
@@ -84,8 +84,8 @@ fn say_directory_news<S: ReplySink>(
     news: &News,
     out: &mut S,
 ) -> Result<(), AllocError>
-    ensures { (purpose : Purpose) → Sends result (S.writes out.old out.new)
-        (news_commands purpose DirectoryKind token.now news.now) }
+    ensures { (purpose : Purpose) (base : List ℕ) → Sends result (S.writes out.old out.new)
+        (news_commands purpose DirectoryKind token.now base news.now) }
 {
     say_properties(true, token, &news.changes, out)
 }
@@ -93,16 +93,17 @@ fn say_directory_news<S: ReplySink>(
 /// Writes what is told of a file.
 fn say_file_news<S: ReplySink>(
     alloc: Global,
-    purpose: Purpose,
+    basis: Basis<'_>,
     token: &ByteString,
     news: &News,
     out: &mut S,
 ) -> Result<(), AllocError>
     ensures { Sends result (S.writes out.old out.new)
-        (news_commands purpose FileKind token.now news.now) }
+        (news_commands basis.entry.purpose FileKind token.now
+        (text_or_empty (option_copied basis.entry.before)) news.now) }
 {
     say_properties(false, token, &news.changes, out)?;
-    say_file_end(alloc, purpose, token, &news.text, out)
+    say_file_end(alloc, basis, token, &news.text, out)
 }
 
 /// Writes what is told of the root.
@@ -112,7 +113,7 @@ pub(crate) fn say_root_news<S: ReplySink>(
     out: &mut S,
 ) -> Result<(), AllocError>
     ensures { (purpose : Purpose) → Sends result (S.writes out.old out.new)
-        (news_commands purpose DirectoryKind (token_of DirectoryKind 0) news.now) }
+        (news_commands purpose DirectoryKind (token_of DirectoryKind 0) [] news.now) }
 {
     let token = token(alloc, true, 0)?;
     say_directory_news(&token, news, out)
@@ -121,21 +122,22 @@ pub(crate) fn say_root_news<S: ReplySink>(
 /// Writes what is told of an entry.
 pub(crate) fn say_news<S: ReplySink>(
     alloc: Global,
-    purpose: Purpose,
+    basis: Basis<'_>,
     entrance: Entrance,
     news: &News,
     out: &mut S,
 ) -> Result<(), AllocError>
     requires { entrance.around + 1 < 2 ^ 64 }
     ensures { Sends result (S.writes out.old out.new)
-        (news_commands purpose (kind_if entrance.is_directory)
-        (token_of (kind_if entrance.is_directory) (entrance.around + 1)) news.now) }
+        (news_commands basis.entry.purpose (kind_if entrance.is_directory)
+        (token_of (kind_if entrance.is_directory) (entrance.around + 1))
+        (text_or_empty (option_copied basis.entry.before)) news.now) }
 {
     let token = token(alloc, entrance.is_directory, entrance.around + 1)?;
     if entrance.is_directory {
         say_directory_news(&token, news, out)
     } else {
-        say_file_news(alloc, purpose, &token, news, out)
+        say_file_news(alloc, basis, &token, news, out)
     }
 }
 

@@ -1,18 +1,20 @@
 //! The commands of visits. Where one of these fails, a part of what it says was written.
-ghost use Rattle.std.specs.Prelude.{◌≡◌, ◌<◌, ◌+◌, ◌^◌, ◌∷◌, [], false};
+ghost use Rattle.std.specs.Prelude.{◌≡◌, ◌<◌, ◌+◌, ◌^◌, ◌∷◌, [], false, option_copied};
+ghost use Rattle.wire_deltas.specs.Texts.{text_or_empty};
 ghost use Rattle.drive_rules.specs.Steps.EntryKind.{DirectoryKind};
 ghost use Rattle.reporter.specs.{Knowing.{HoldsKnown, IsKnown, IsVisitKnown, visit_of}, Visits.{Visit, kind_if}};
 ghost use Rattle.drive_sides.specs.{Known.IsKnownOf, OnTrees.on_trees};
 ghost use Rattle.drive_sending.specs.Commands.{add_command, added_entry, around_after, deeper_by, deleted_entry, news_told, open_command, opened_entry};
-ghost use Rattle.drive_sending.specs.{Commands.{plan_commands, visit_commands}, Driving.{Sends, SendsVisits}, Tokens.token_of};
+ghost use Rattle.drive_sending.specs.{Commands.{text_had, IsSentOver, plan_commands, visit_commands}, Driving.{Sends, SendsVisits}, Tokens.token_of};
 ghost use Rattle.wire_replies.specs.Made.{Makes};
 
 use crate::naming::{relative_text, token};
 use crate::saying::say_made;
 use crate::telling::{Entrance, or_no_news, say_news};
+use crate::texts::Basis;
 use drive_news::News;
 use drive_sides::{DrivePlace, DriveVisit, DriveVisitor, TwoTrees};
-use repo_api::Repository;
+use repo_api::{FileText, Repository};
 use reporter::{KnownVisit, Sides};
 use std::alloc::{AllocError, Global};
 use svnpath::Path;
@@ -107,6 +109,23 @@ pub(crate) fn target_news<R: Repository>(
     news_told(alloc, trees, &target, false)
 }
 
+/// Finds the text that the client has of an entry that stays, where its text is sent.
+fn text_before<'a, R: Repository>(
+    trees: &'a TwoTrees<'_, R>,
+    place: &DrivePlace,
+    news: &News,
+) -> Option<&'a FileText>
+    requires known { IsKnown (on_trees trees.now IsKnownOf) place.now }
+    requires told { news.now ≡ on_trees trees.now news_told place.now.path false }
+    ensures { IsSentOver news.now (text_or_empty (option_copied result))
+        (on_trees trees.now text_had place.now.path false) }
+{
+    match &news.text {
+        None => None,
+        Some(_) => trees.had_text(place),
+    }
+}
+
 /// Writes that an entry is opened, and what it is told.
 fn say_open<R: Repository, S: ReplySink>(
     alloc: Global,
@@ -122,7 +141,11 @@ fn say_open<R: Repository, S: ReplySink>(
 {
     let news = news_told(alloc, trees, place, false)?;
     say_made(open_command(alloc, trees, place, entrance), out)?;
-    say_news(alloc, trees.report.ask.purpose, entrance, &news, out)
+    let basis = Basis {
+        purpose: trees.report.ask.purpose,
+        before: text_before(trees, place, &news),
+    };
+    say_news(alloc, basis, entrance, &news, out)
 }
 
 /// Writes that an entry is added, and what it is told.
@@ -140,7 +163,11 @@ fn say_add<R: Repository, S: ReplySink>(
 {
     let news = news_told(alloc, trees, place, true)?;
     say_made(add_command(alloc, &place.path, entrance), out)?;
-    say_news(alloc, trees.report.ask.purpose, entrance, &news, out)
+    let basis = Basis {
+        purpose: trees.report.ask.purpose,
+        before: None,
+    };
+    say_news(alloc, basis, entrance, &news, out)
 }
 
 /// Writes that an entry is deleted.

@@ -2,7 +2,7 @@
 use Rattle.std.proofs.Common.{◌≡◌, ℕ, Bool, true, false, cond, ◌&&◌, ◌||◌, [], Option, Some, None, option_map, refl, sym, ap, ◌∙◌}
 use Rattle.std.specs.Prelude.{is_some}
 use Rattle.svnpath.specs.Paths.{PathValue}
-use Rattle.repo_api.specs.{States.{RepoState, trees_in}, Trees.{revision_of, Tree}, declared.entry.Entry.Entry}
+use Rattle.repo_api.specs.{States.{RepoState, trees_in}, Trees.{revision_of, text_of, Tree}, declared.entry.Entry.Entry}
 use Rattle.drive_rules.specs.{Scopes.within, Steps.node_of}
 use Rattle.reporter.specs.Walks.{IsSame}
 use Rattle.drive_reports.specs.{Aims.aim_at, Places.{in_place, reported_subtree}, Reported.{ReportedEntry, reported_as, top_entry}, declared.graft.Subtree.Subtree}
@@ -32,6 +32,18 @@ old_known c report p place had so scope same =
     ∙ ap (λ b. option_map (top_entry b) (trees_in c.revisions place.revision place.path)) (sym same.2)
     ∙ ap (λ n. option_map (top_entry had.starts_empty) (trees_in c.revisions n place.path)) (sym same.0)
     ∙ ap (λ q. option_map (top_entry had.starts_empty) (trees_in c.revisions had.place.revision q)) (sym same.1)
+
+-- the text of an entry, at the top of what is reported
+top_text : (b : Bool) (o : Option Entry) → text_of (option_map (top_entry b) o) ≡ text_of o
+top_text b None = refl
+top_text b (Some e) = refl
+
+-- the text that is had in scope
+pub text_known : (c : RepoState) (report : WholeReport) (p : PathValue) (place : ReportedPlace) → IsHadAt c report p (Some place) → drive_scope c report p ≡ true
+    → text_of (old_tree c report p) ≡ text_of (trees_in c.revisions place.revision place.path)
+text_known c report p place so scope =
+    ap text_of (ap (λ b. cond b (client_entries c report p) None) scope ∙ ap (option_map (λ (h : ReportedEntry). h.entry)) so.here ∙ placed_entry (trees_in c.revisions) place)
+    ∙ top_text place.starts_empty (trees_in c.revisions place.revision place.path)
 
 -- nothing is nothing within a scope
 within_none : (b : Bool) (o : Option Entry) → o ≡ None → cond b o None ≡ None

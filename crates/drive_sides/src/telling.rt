@@ -1,7 +1,8 @@
 //! What the entries of a drive are told, and what else is to be known of them.
-ghost use Rattle.std.specs.Prelude.{◌≡◌, true, IfOk, option_and_then, option_map};
+ghost use Rattle.std.specs.Prelude.{◌≡◌, true, IfOk, option_and_then, option_copied, option_map};
+ghost use Rattle.repo_api.specs.Trees.{text_of};
 ghost use Rattle.reporter.specs.Knowing.{IsKnown};
-ghost use Rattle.drive_reports.specs.{Reported.ReportedEntry, Targets.{client_tree, drive_scope, due_in, is_stale, is_to_be_opened, is_written_anew, keeps_report, new_tree, stale_in}};
+ghost use Rattle.drive_reports.specs.{Reported.ReportedEntry, Targets.{client_tree, drive_scope, due_in, is_stale, is_to_be_opened, is_written_anew, keeps_report, new_tree, old_tree, stale_in}};
 ghost use Rattle.drive_news.specs.{News.{news_at, news_of}, Places.entry_had};
 ghost use Rattle.drive_sides.specs.{Depths.IsOfPlace, Known.IsKnownOf, OnTrees.on_trees};
 
@@ -11,7 +12,7 @@ use crate::two_trees::TwoTrees;
 use crate::views::had_at;
 use drive_news::{Had, News, Place, Sight, news_of};
 use drive_reports::{DriveAsk, ReportedPlace, is_to_the_end};
-use repo_api::Repository;
+use repo_api::{FileText, Repository};
 use std::alloc::{AllocError, Global};
 
 /// Says whether a client writes a directory down anew when it is opened, by what it has there.
@@ -87,6 +88,18 @@ impl<'a, R: Repository> TwoTrees<'a, R> {
         match &place.known.had {
             None => None,
             Some(had) => Some(had.revision),
+        }
+    }
+
+    /// Finds the text that the client has of a path of the drive, if it has a file there.
+    pub fn had_text(&self, place: &DrivePlace) -> Option<&FileText>
+        requires { IsKnown (on_trees self.now IsKnownOf) place.now }
+        ensures { on_trees self.now drive_scope place.now.path ≡ true
+            → option_copied result ≡ text_of (on_trees self.now old_tree place.now.path) }
+    {
+        match &place.known.had {
+            None => None,
+            Some(had) => self.view.text(had.revision, &had.path),
         }
     }
 

@@ -14,8 +14,8 @@ pub(crate) const EDIT_LIMIT: u64 = 4_294_967_296;
 /// What a text delta counts as while it is read, in bytes: as much as the longest text of a file.
 const OPEN_DELTA: u64 = 16_777_216;
 
-/// How many times the bytes of a text are in memory when its commit is saved: in the edit, in the file of the revision, and
-/// twice as that is read again.
+/// How many times the bytes of a text count: in the edit, in the file of the revision that is saved, and as much again for that
+/// file to grow.
 const COPIES_OF_TEXT: u64 = 4;
 
 /// What a command counts as beside its strings and the names of its path, in bytes.

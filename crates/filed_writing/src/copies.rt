@@ -4,13 +4,14 @@ ghost use Rattle.svnpath.specs.Paths.{path_cmp};
 ghost use Rattle.revision_data.specs.Found.{found};
 ghost use Rattle.noderevs.specs.{Held.node_at, declared.node_rev.NodeRev.NodeRev};
 ghost use Rattle.filed_trees.specs.Tables.{placed_in};
-ghost use Rattle.filed_writing.specs.{Blocks.IsRightHere, Drafts.{came_from, comes_of, copy_from}, Layout.{all_come, comes, copies_of, copy_of, known_from, made_from, next_after, next_after_all, nodes_of, place_above}, Pieces.{begins, copied, with_both}, Trails.IsTrail};
+ghost use Rattle.filed_writing.specs.{Blocks.IsRightHere, Drafts.{came_from, comes_of, copy_from}, Layout.{all_come, comes, copies_of, copy_of, known_from, made_from, next_after, next_after_all, nodes_of, place_above}, Pieces.{begins, copied, with_both}, Trails.{IsTrail, IsWay}};
 
 use crate::counter::{Counter, taken};
 use crate::revision::{Revision, puts};
 use crate::rules::properties_fit;
 use crate::text::text_of;
 use crate::trail::Trail;
+use crate::way::Way;
 use filed_trees::Placed;
 use fsfs_ids::{IdPart, Place};
 use noderevs::{NodeId, NodeRev};
@@ -159,13 +160,18 @@ impl<'a> Revision<'a> {
     }
 
     /// Finds the place of the directory of a node revision of this revision.
-    fn directory(self, node: &NodeRev) -> Option<usize>
-        ensures { result ≡ place_above self.entry node.now.path }
+    fn directory(self, node: &'a NodeRev, way: &mut Way<'a>) -> Result<Option<usize>, AllocError>
+        requires way { IsWay self way.now }
+        ensures way { IsWay self.entry way.new }
+        ensures place { IfOk result (λ place. place ≡ place_above self.entry node.now.path) }
     {
-        let (_, above) = node.path.components().split_last()?;
-        let root = self.nodes.root(self.number as u64);
-        let id = self.nodes.find_in(root, above)?;
-        Some(id.place as usize)
+        let Some((_, above)) = node.path.components().split_last() else {
+            return Ok(None);
+        };
+        match way.find(self, above)? {
+            Some(id) => Ok(Some(id.place as usize)),
+            None => Ok(None),
+        }
     }
 
     /// Says which copy a node revision is of: one that begins with it, that of its predecessor, or that of
@@ -204,13 +210,15 @@ impl<'a> Revision<'a> {
         ensures { IfOk result (λ roots. reverse (map copy_from roots.items)
             ≡ copies_of self.entry 0 (nodes_of self.entry) (map comes_of origins.now)) }
     {
-        let mut roots = Vec::new(alloc);
+        let mut way = Way::new(alloc);
+        let mut roots = Vec::with_capacity(alloc, origins.len())?;
         for place in (0..origins.len()).rev() {
             let Some(node) = self.node_here(place as u64) else {
                 return Err(AllocError);
             };
+            let directory = self.directory(node, &mut way)?;
             let root = {
-                let above = above(origins.len(), self.directory(node), roots.as_slice());
+                let above = above(origins.len(), directory, roots.as_slice());
                 self.copy_root(alloc, node, &origins[place], above)?
             };
             roots.push(root)?;

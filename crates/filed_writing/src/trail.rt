@@ -1,5 +1,5 @@
 //! The way to a node, and what each node on it is made from.
-ghost use Rattle.std.specs.{Prelude.{◌≡◌, ◌≤◌, ◌+◌, length, option_copied, take, IfOk, Decides}, List.Sorted.IsStrictlySortedBy, Map.keys_of};
+ghost use Rattle.std.specs.{Prelude.{◌≡◌, ◌≤◌, length, option_copied, take, IfOk}, List.Sorted.IsStrictlySortedBy, Map.keys_of};
 ghost use Rattle.svnpath.specs.Paths.{path_cmp};
 ghost use Rattle.revision_data.specs.Found.{found};
 ghost use Rattle.filed_writing.specs.{Origins.deleted_at, Trails.{IsTrail, made_at}, declared.revision.Revision.Revision};
@@ -7,48 +7,24 @@ ghost use Rattle.filed_writing.specs.{Origins.deleted_at, Trails.{IsTrail, made_
 use crate::finding::change_near;
 use crate::origin::{put_by, root_before};
 use crate::revision::Revision;
+use crate::way::Way;
 use byte_string::ByteString;
 use noderevs::NodeId;
 use repo_api::Change;
 use std::alloc::{AllocError, Global};
 
-/// Remembers what the node at the last path, and each above it, is made from, so that the next path is followed from
-/// where it leaves the last one; and at which place among the changes that of the next path is likely.
+/// Remembers what the node at the last path, and each above it, is made from; and at which place among the changes that
+/// of the next path is likely.
 pub struct Trail<'a> {
-    path: &'a [ByteString],
-    ids: Vec<Option<NodeId>>,
+    way: Way<'a>,
     likely: usize,
 }
 
 impl Drop for Trail<'_> {
     fn drop(self) {
-        let Trail {
-            path: _,
-            ids,
-            likely: _,
-        } = self;
-        std::mem::drop(ids);
+        let Trail { way, likely: _ } = self;
+        std::mem::drop(way);
     }
-}
-
-/// Says whether two names are the same.
-#[tactic(auto, using(svnpath::specs::PathLaws::same_component_is))]
-fn is_same_name(name: &ByteString, other: &ByteString) -> bool
-    ensures { Decides result (name.now ≡ other.now) }
-{
-    name == other
-}
-
-/// Counts the names with which two paths begin alike.
-fn shared_length(path: &[ByteString], other: &[ByteString]) -> usize
-    ensures alike { take result path.now ≡ take result other.now }
-    ensures bound { result ≤ length other.now }
-{
-    let mut count = 0;
-    while count < path.len() && count < other.len() && is_same_name(&path[count], &other[count]) {
-        count += 1;
-    }
-    count
 }
 
 impl<'a> Trail<'a> {
@@ -56,38 +32,25 @@ impl<'a> Trail<'a> {
     pub fn new(alloc: Global) -> Self
         ensures { (r : Revision) → IsTrail r result }
     {
-        let path: &'a [ByteString] = &[];
-        Trail {
-            path,
-            ids: Vec::new(alloc),
-            likely: 0,
-        }
-    }
-
-    /// Turns to another path, and keeps what is known of the names with which both begin.
-    fn turn_to(&mut self, path: &'a [ByteString])
-        ensures path { self.new.path ≡ path.entry }
-        ensures known { (r : Revision) → IsTrail r self.old → IsTrail r self.new }
-        ensures bound { length self.new.ids.items ≤ length path.now + 1 }
-    {
-        let shared = shared_length(self.path, path);
-        self.ids.truncate(shared + 1);
-        self.path = path;
+        let way = Way::new(alloc);
+        Trail { way, likely: 0 }
     }
 
     /// Finds what the first node of the path that is not known yet is made from.
     fn next(&self, revision: Revision<'_>) -> Option<NodeId>
         requires sorted { IsStrictlySortedBy path_cmp (keys_of revision.changes.now) }
         requires trail { IsTrail revision self.now }
-        requires more { length self.now.ids.items ≤ length self.now.path.now }
-        ensures { result ≡ made_at revision.entry (take (length self.now.ids.items) self.now.path.now) }
+        requires more { length self.now.way.ids.items ≤ length self.now.way.path.now }
+        ensures { result ≡ made_at revision.entry
+            (take (length self.now.way.ids.items) self.now.way.path.now) }
     {
-        let depth = self.ids.len();
+        let way = &self.way;
+        let depth = way.ids.len();
         let kept = match depth.checked_sub(1) {
-            Some(above) => revision.nodes.kid(self.ids[above], &self.path[above]),
+            Some(above) => way.entry(revision.nodes, above),
             None => root_before(revision.nodes, revision.number as u64),
         };
-        let (change, _) = change_near(revision.changes, self.likely, &self.path[..depth]);
+        let (change, _) = change_near(revision.changes, self.likely, &way.path[..depth]);
         put_by(revision.nodes, change, kept)
     }
 
@@ -103,12 +66,12 @@ impl<'a> Trail<'a> {
         ensures trail { IsTrail revision.entry self.new }
         ensures found { IfOk result (λ id. id ≡ made_at revision.entry path.now) }
     {
-        self.turn_to(path);
-        while self.ids.len() <= path.len() {
+        self.way.turn_to(path);
+        while self.way.ids.len() <= path.len() {
             let next = self.next(revision);
-            self.ids.push(next)?;
+            self.way.ids.push(next)?;
         }
-        Ok(self.ids[path.len()])
+        Ok(self.way.ids[path.len()])
     }
 
     /// Finds the change of a path, and remembers the place behind it.

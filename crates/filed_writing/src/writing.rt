@@ -58,7 +58,7 @@ impl Revision<'_> {
         let mut roots = roots;
         let mut placed = Vec::with_capacity(alloc, origins.len())?;
         let mut out = Vec::new(alloc);
-        let mut written = Vec::new(alloc);
+        let mut written = Vec::with_capacity(alloc, origins.len())?;
         for (place, origin) in origins.iter().enumerate() {
             let (Some(node), Some(root)) = (self.node_here(place as u64), roots.pop()) else {
                 return Err(AllocError);

@@ -7,9 +7,9 @@ use Rattle.svndiff0.specs.{Document.document_text, Window.limit}
 use Rattle.repo_api.specs.{Kinds.text_at, Properties.is_same_value, States.RepoState}
 use Rattle.traces.specs.declared.place.Place.{Place}
 use Rattle.wire_replies.specs.declared.reply.Reply.TheVariants.{Chunk}
-use Rattle.wire_deltas.specs.Deltas.{delta_chunks}
-use Rattle.wire_deltas.proofs.Given.{given}
-use Rattle.machine.specs.{FileTexts.{chunk_bytes, Follows, FollowInTurn, text_after}, Histories.{delta_told, has_text_of, text_before, text_or_empty}}
+use Rattle.text_deltas.specs.Deltas.{delta_chunks}
+use Rattle.wire_deltas.specs.Texts.{text_or_empty}
+use Rattle.machine.specs.{FileTexts.{chunk_bytes, Follows, FollowInTurn, text_after}, Histories.{delta_told, has_text_of, text_before}}
 
 same_value : (a b : Option (List ℕ)) → is_same_value a b ≡ true → a ≡ b
 same_value None None h = refl
@@ -27,8 +27,12 @@ strings : (chunks : List (List ℕ)) → map chunk_bytes (map Chunk chunks) ≡ 
 strings [] = refl
 strings (bytes ∷ chunks) = ap (λ cs. bytes ∷ cs) (strings chunks)
 
-follows : (c : RepoState) (before : Option Place) (at : Place) → Follows c before at
-follows c before at = by (has_text_of c before at) refl
+-- a delta gives each text that is short enough
+abbrev AreGiven : Type 0
+AreGiven = (before text : List ℕ) → length text ≤ limit → document_text before (concat (delta_chunks before text)) ≡ Ok text
+
+follows : AreGiven → (c : RepoState) (before : Option Place) (at : Place) → Follows c before at
+follows given c before at = by (has_text_of c before at) refl
   where
     by : (b : Bool) → has_text_of c before at ≡ b → length (text_before c (Some at)) ≤ limit
         → text_after (text_before c before) (delta_told (has_text_of c before at) (text_before c before) (text_before c (Some at))) ≡ Ok (text_before c (Some at))
@@ -40,6 +44,6 @@ follows c before at = by (has_text_of c before at) refl
         ∙ ap (λ cs. document_text (text_before c before) (concat cs)) (strings (delta_chunks (text_before c before) (text_before c (Some at))))
         ∙ given (text_before c before) (text_before c (Some at)) within
 
-pub follow_in_turn : (c : RepoState) (before : Option Place) (places : List Place) → FollowInTurn c before places
-follow_in_turn c before [] = tt
-follow_in_turn c before (at ∷ places) = (follows c before at, follow_in_turn c (Some at) places)
+pub follow_in_turn : AreGiven → (c : RepoState) (before : Option Place) (places : List Place) → FollowInTurn c before places
+follow_in_turn given c before [] = tt
+follow_in_turn given c before (at ∷ places) = (follows given c before at, follow_in_turn given c (Some at) places)

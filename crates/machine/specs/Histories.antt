@@ -12,7 +12,8 @@ use Rattle.file_histories.specs.{Deleted.deleted_revision, Differing.differing, 
 use Rattle.commands.specs.{declared.command.GetLocationsCommand.GetLocationsCommand, declared.command.LogCommand.LogCommand}
 use Rattle.commands.specs.{declared.command.GetDeletedRevCommand.GetDeletedRevCommand, declared.command.GetFileRevsCommand.GetFileRevsCommand}
 use Rattle.commands.specs.declared.command.GetLocationSegmentsCommand.{GetLocationSegmentsCommand}
-use Rattle.wire_deltas.specs.Deltas.{delta_chunks}
+use Rattle.text_deltas.specs.Deltas.{delta_chunks}
+use Rattle.wire_deltas.specs.Texts.{text_or_empty}
 use Rattle.wire_replies.specs.{Replies.logged_change, declared.histories.LoggedChange.LoggedChange, declared.reply.Reply.Reply}
 use Rattle.wire_replies.specs.declared.reply.Reply.TheVariants as replies
 use Rattle.machine.specs.{Answers.failure_at, Readings.{author_of, entry_properties, no_file, revision_date, revision_value}}
@@ -200,11 +201,6 @@ file_revisions_refusal c wants_merged at =
     else if wants_merged then Some refusals.NotSupported
     else if is_file_kind (kind_at c at.revision at.path) then None
     else Some (no_file (kind_at c at.revision at.path))
-
--- the text, of no bytes where there is none
-abbrev pub text_or_empty : Option (List ℕ) → List ℕ
-text_or_empty None = []
-text_or_empty (Some text) = text
 
 -- the text and the properties of a file that was sent before, if one was
 abbrev pub text_before : RepoState → Option Place → List ℕ

@@ -54,4 +54,6 @@ pub fn steps_keep_trees()
 /// where there is no delta it is the text of the one before.
 pub fn file_texts_follow()
     ensures { (c : RepoState) (places : List Place) → FollowInTurn c None places }
-{}
+{
+    text_deltas::deltas_give_the_text();
+}

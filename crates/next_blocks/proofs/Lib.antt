@@ -9,4 +9,4 @@ pub mod Listed
 pub mod Lists
 pub mod Ordered
 pub mod News
-pub mod Down
+pub mod Steps

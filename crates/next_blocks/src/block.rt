@@ -3,13 +3,14 @@ ghost use Rattle.std.specs.{Prelude.{◌≡◌, ◌<◌, true, IfOk, IsSomeAnd, 
 ghost use Rattle.svnpath.specs.Paths.{path_cmp};
 ghost use Rattle.repo_api.specs.Histories.{Changed};
 ghost use Rattle.noderevs.specs.{Held.count, declared.node_rev.NodeId.NodeId, declared.node_rev.NodeRev.NodeRev};
-ghost use Rattle.next_blocks.specs.Rules.{IsMarked, IsNextRevision, IsRightRoot, beside, id_in, is_new_down_to, past_of};
+ghost use Rattle.next_blocks.specs.{Rules.{IsMarked, IsNextRevision, IsRightRoot, beside, past_of}, Ways.IsWay};
 
 use crate::next_block::NextBlock;
 use crate::node::is_directory;
-use byte_string::ByteString;
-use noderevs::NodeRev;
+use crate::way::Way;
+use noderevs::{NodeId, NodeRev};
 use std::alloc::{AllocError, Global};
+use std::mem::drop;
 use svnpath::{DEPTH_LIMIT, Path};
 
 /// Says whether a node is a directory at the root, beneath which no path is too deep.
@@ -19,7 +20,7 @@ fn is_right_root(node: &NodeRev) -> bool
     node.path.is_root() && is_directory(node) && node.height as usize <= DEPTH_LIMIT
 }
 
-impl NextBlock<'_> {
+impl<'a> NextBlock<'a> {
     /// Says whether the root is one of the block's nodes, and may be one.
     fn has_right_root(self) -> bool
         ensures { Decides result
@@ -34,33 +35,13 @@ impl NextBlock<'_> {
         }
     }
 
-    /// Says whether what is at a path and above it is of the block.
-    fn is_new_down_to(self, path: &[ByteString]) -> bool
-        ensures { result ≡ is_new_down_to (past_of self.entry.nodes.now) self.entry.block.now
-            path.now }
-    {
-        let mut at = self.block.root;
-        for name in path {
-            if !self.is_new(at) {
-                return false;
-            }
-            match self.kid(at, name) {
-                Some(kid) => at = kid,
-                None => return true,
-            }
-        }
-        self.is_new(at)
-    }
-
-    /// Says whether the own last change of what is at a path was made by this revision, if there is
-    /// something.
-    fn has_own_mark(self, path: &[ByteString]) -> bool
-        ensures { Decides result ((id : NodeId) (node : NodeRev)
-            → id_in (past_of self.entry.nodes.now) self.entry.block.now path.now ≡ Some id
-            → beside (past_of self.entry.nodes.now) self.entry.block.now id ≡ Some node
+    /// Says whether the own last change of a node was made by this revision, if there is a node.
+    fn has_own_mark(self, id: Option<NodeId>) -> bool
+        ensures { Decides result ((i : NodeId) (node : NodeRev) → id ≡ Some i
+            → beside (past_of self.entry.nodes.now) self.entry.block.now i ≡ Some node
             → node.own.rev ≡ (past_of self.entry.nodes.now).count) }
     {
-        let Some(id) = self.find(path) else {
+        let Some(id) = id else {
             return true;
         };
         match self.node(id) {
@@ -70,24 +51,41 @@ impl NextBlock<'_> {
     }
 
     /// Says whether what is at a changed path and above it is of the block, with its own mark.
-    fn is_marked(self, path: &Path) -> bool
-        ensures { Decides result (IsMarked (past_of self.entry.nodes.now) self.entry.block.now
-            path.now) }
+    fn is_marked(self, way: &mut Way<'a>, path: &'a Path) -> Result<bool, AllocError>
+        requires way { IsWay self way.now }
+        ensures way { IsWay self.entry way.new }
+        ensures marked { IfOk result (λ answer. Decides answer (IsMarked
+            (past_of self.entry.nodes.now) self.entry.block.now path.now)) }
     {
-        self.is_new_down_to(path.components()) && self.has_own_mark(path.components())
+        let id = way.find(self, path.components())?;
+        Ok(way.is_new(self) && self.has_own_mark(id))
     }
 
     /// Says whether all changes are marked.
-    fn are_marked(self) -> bool
-        ensures { Decides result ((e : Changed) → Contains self.entry.changes.now e
-            → IsMarked (past_of self.entry.nodes.now) self.entry.block.now e.0) }
+    fn are_marked_on(self, way: &mut Way<'a>) -> Result<bool, AllocError>
+        requires way { IsWay self way.now }
+        ensures { IfOk result (λ answer. Decides answer ((e : Changed)
+            → Contains self.entry.changes.now e
+            → IsMarked (past_of self.entry.nodes.now) self.entry.block.now e.0)) }
     {
         for change in self.changes {
-            if !self.is_marked(&change.0) {
-                return false;
+            if !self.is_marked(way, &change.0)? {
+                return Ok(false);
             }
         }
-        true
+        Ok(true)
+    }
+
+    /// Says whether all changes are marked: each is looked for from where its path leaves the last one.
+    fn are_marked(self, alloc: Global) -> Result<bool, AllocError>
+        ensures { IfOk result (λ answer. Decides answer ((e : Changed)
+            → Contains self.entry.changes.now e
+            → IsMarked (past_of self.entry.nodes.now) self.entry.block.now e.0)) }
+    {
+        let mut way = Way::new(alloc);
+        let answer = self.are_marked_on(&mut way);
+        drop(way);
+        answer
     }
 
     /// Says whether the block and the changes may be the next revision.
@@ -97,9 +95,9 @@ impl NextBlock<'_> {
         ensures { IfOk result (λ answer. Decides answer (IsNextRevision
             (past_of self.entry.nodes.now) self.entry.block.now self.entry.changes.now)) }
     {
-        if !self.are_right_nodes(alloc)? {
+        if !self.are_right_nodes(alloc)? || !self.has_right_root() {
             return Ok(false);
         }
-        Ok(self.has_right_root() && self.are_marked())
+        self.are_marked(alloc)
     }
 }

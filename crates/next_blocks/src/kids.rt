@@ -1,11 +1,12 @@
 //! The entries of the directories of a block.
-ghost use Rattle.std.specs.{Prelude.{◌≡◌, map, true, IfOk, Some, None, Decides}, FinMap.entries, List.Sorted.IsStrictlySortedBy, Map.{keys_of, Iter.deref}};
+ghost use Rattle.std.specs.{Prelude.{◌≡◌, ◌++◌, ◌∷◌, [], map, true, IfOk, Some, None, Decides}, FinMap.entries, List.Sorted.IsStrictlySortedBy, Map.{keys_of, Iter.deref}};
 ghost use Rattle.svnpath.specs.{Components.IsComponent, Paths.{Component, path_cmp}};
 ghost use Rattle.noderevs.specs.{Heights.AreNews, Held.node_at, Nodes.{kid_at, kid_of}, declared.node_rev.NodeId.NodeId};
 ghost use Rattle.next_blocks.specs.Rules.{IsNewKid, IsOldKid, IsRightKid, id_before, past_of};
 
 use crate::changes::is_made;
 use crate::next_block::NextBlock;
+use crate::way::is_same_name;
 use byte_string::ByteString;
 use noderevs::{NodeId, NodeRev};
 use std::alloc::{AllocError, Global};
@@ -16,6 +17,24 @@ pub(crate) fn is_same_path(path: &Path, other: &Path) -> bool
     ensures { Decides result (path.now ≡ other.now) }
 {
     path == other
+}
+
+/// Says whether two lists of names are the same.
+fn are_same_names(names: &[ByteString], others: &[ByteString]) -> bool
+    ensures { Decides result (names.now ≡ others.now) }
+{
+    names == others
+}
+
+/// Says whether a path is that of an entry of a directory.
+fn is_child(path: &Path, directory: &Path, name: &ByteString) -> bool
+    ensures { Decides result (path.now ≡ directory.now ++ name.now ∷ []) }
+{
+    match path.components().split_last() {
+        Some((last, above)) => is_same_name(last, name)
+            && are_same_names(above, directory.components()),
+        None => false,
+    }
 }
 
 /// Says whether an id is this one.
@@ -47,14 +66,16 @@ fn are_components(alloc: Global, node: &NodeRev) -> Result<bool, AllocError>
 }
 
 impl NextBlock<'_> {
-    /// Says whether an entry at a path is a node of the block in front of a place, which was made there.
-    fn is_new_kid(self, place: usize, path: &Path, kid: NodeId) -> bool
+    /// Says whether an entry of a directory is a node of the block in front of a place, which was made there.
+    fn is_new_kid(self, place: usize, directory: &Path, name: &ByteString, kid: NodeId) -> bool
         ensures { Decides result (IsNewKid (past_of self.entry.nodes.now) self.entry.block.now
-            place path.now kid) }
+            place (directory.now ++ name.now ∷ []) kid) }
     {
         let at = kid.place as usize;
         match self.block.nodes.get(at) {
-            Some(node) => self.is_new(kid) && at < place && is_same_path(&node.path, path),
+            Some(node) => {
+                self.is_new(kid) && at < place && is_child(&node.path, directory, name)
+            }
             None => false,
         }
     }
@@ -85,9 +106,11 @@ impl NextBlock<'_> {
             (past_of self.entry.nodes.now) self.entry.block.now self.entry.changes.now place
             directory.now name.now kid)) }
     {
+        if self.is_new_kid(place, directory, name, kid) {
+            return Ok(is_right_name(name));
+        }
         let path = directory.child(alloc, name.clone()?)?;
-        let is_placed = self.is_new_kid(place, &path, kid) || self.is_old_kid(&path, kid);
-        Ok(is_placed && is_right_name(name))
+        Ok(self.is_old_kid(&path, kid) && is_right_name(name))
     }
 
     /// Says whether the entries of a node, at its place of the block, are those that it may have. Those that were there

@@ -7,7 +7,9 @@ mod kids;
 mod next_block;
 mod node;
 mod own;
+mod way;
 
 pub use changes::change_of;
 pub use next_block::NextBlock;
 pub use own::{are_same_properties, is_same_content};
+pub use way::shared_length;

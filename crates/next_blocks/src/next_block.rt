@@ -1,7 +1,7 @@
 //! A block that is to come after the revisions of nodes.
-ghost use Rattle.std.specs.Prelude.{◌≡◌, ◌==◌, Some, option_copied};
+ghost use Rattle.std.specs.Prelude.{◌≡◌, ◌==◌, option_copied};
 ghost use Rattle.noderevs.specs.{Held.count, Nodes.kid_at};
-ghost use Rattle.next_blocks.specs.Rules.{beside, id_before, id_in, past_of};
+ghost use Rattle.next_blocks.specs.Rules.{beside, id_before, is_new, past_of};
 
 use byte_string::ByteString;
 use noderevs::{Block, NodeId, NodeRev, Nodes};
@@ -25,6 +25,16 @@ impl<'a> NextBlock<'a> {
         id.rev as usize == self.nodes.count()
     }
 
+    /// Says whether what is there, if anything, is a node of the block.
+    pub(crate) fn is_new_at(self, id: Option<NodeId>) -> bool
+        ensures { result ≡ is_new (past_of self.entry.nodes.now) id }
+    {
+        match id {
+            Some(id) => self.is_new(id),
+            None => true,
+        }
+    }
+
     /// Finds the node of an id, of the block or of an earlier revision.
     pub(crate) fn node(self, id: NodeId) -> Option<&'a NodeRev>
         ensures { option_copied result ≡ beside (past_of self.entry.nodes.now) self.entry.block.now id }
@@ -36,26 +46,15 @@ impl<'a> NextBlock<'a> {
         }
     }
 
-    /// Finds the id of an entry of a directory.
-    pub(crate) fn kid(self, directory: NodeId, name: &ByteString) -> Option<NodeId>
+    /// Finds the id of an entry of a directory, if there is one.
+    pub(crate) fn kid(self, directory: Option<NodeId>, name: &ByteString) -> Option<NodeId>
         ensures { result ≡ kid_at (beside (past_of self.entry.nodes.now) self.entry.block.now)
-            (Some directory) name.now }
+            directory name.now }
     {
-        match self.node(directory)?.kids.get(name) {
+        match self.node(directory?)?.kids.get(name) {
             Some(id) => Some(*id),
             None => None,
         }
-    }
-
-    /// Finds the id that a path of the block's tree leads to.
-    pub(crate) fn find(self, path: &[ByteString]) -> Option<NodeId>
-        ensures { result ≡ id_in (past_of self.entry.nodes.now) self.entry.block.now path.now }
-    {
-        let mut at = self.block.root;
-        for name in path {
-            at = self.kid(at, name)?;
-        }
-        Some(at)
     }
 
     /// Finds the id that a path of the youngest revision before leads to.

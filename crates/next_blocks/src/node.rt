@@ -4,15 +4,17 @@ ghost use Rattle.std.specs.{List.Sorted.IsStrictlySortedBy, Map.{keys_of, Iter.d
 ghost use Rattle.svnpath.specs.Paths.{Component, path_cmp};
 ghost use Rattle.repo_api.specs.Trees.{is_directory_content};
 ghost use Rattle.noderevs.specs.{Heights.{AreNews, IsHeight}, Held.{count, node_at}, Nodes.{kid_at, kid_of}, declared.node_rev.NodeRev.NodeRev};
-ghost use Rattle.next_blocks.specs.Rules.{IsRightFile, IsRightNode, KeepsOwn, beside, id_in, past_of};
+ghost use Rattle.next_blocks.specs.{Rules.{IsRightFile, IsRightNode, KeepsOwn, beside, id_before, id_in, past_of}, Ways.IsWay};
 
 use crate::changes::is_made;
 use crate::kids::is_id;
 use crate::next_block::NextBlock;
+use crate::way::Way;
 use byte_string::ByteString;
 use noderevs::{NodeId, NodeRev};
 use repo_api::{Content, TEXT_LIMIT};
 use std::alloc::{AllocError, Global};
+use std::mem::drop;
 
 /// Says whether a node has no entries.
 fn has_no_kids(alloc: Global, node: &NodeRev) -> Result<bool, AllocError>
@@ -54,21 +56,29 @@ fn is_right_file(alloc: Global, node: &NodeRev) -> Result<bool, AllocError>
     Ok(is_empty && is_short(node))
 }
 
-impl NextBlock<'_> {
+impl<'a> NextBlock<'a> {
     /// Says whether a node is where its path leads to.
-    fn is_placed(self, place: usize, node: &NodeRev) -> bool
-        requires { count self.nodes.now < 262144 }
-        ensures { Decides result (id_in (past_of self.entry.nodes.now) self.entry.block.now
-            node.now.path ≡ Some (record {
+    fn is_placed(
+        self,
+        way: &mut Way<'a>,
+        place: usize,
+        node: &'a NodeRev,
+    ) -> Result<bool, AllocError>
+        requires room { count self.nodes.now < 262144 }
+        requires way { IsWay self way.now }
+        ensures way { IsWay self.entry way.new }
+        ensures placed { IfOk result (λ answer. Decides answer (id_in
+            (past_of self.entry.nodes.now) self.entry.block.now node.now.path ≡ Some (record {
               rev = (past_of self.entry.nodes.now).count;
               place = place;
-            })) }
+            }))) }
     {
         let id = NodeId {
             rev: self.nodes.count() as u32,
             place: place as u64,
         };
-        is_id(self.find(node.path.components()), id)
+        let found = way.find(self, node.path.components())?;
+        Ok(is_id(found, id))
     }
 
     /// Says whether a node has its height.
@@ -94,23 +104,31 @@ impl NextBlock<'_> {
 
     /// Says whether the own last change of a node was made by this revision, or else is that from
     /// before, where nothing was made.
-    fn keeps_own(self, node: &NodeRev) -> bool
-        requires { IsStrictlySortedBy path_cmp (keys_of self.changes.now) }
+    fn keeps_own(self, before: Option<NodeId>, node: &NodeRev) -> bool
+        requires sorted { IsStrictlySortedBy path_cmp (keys_of self.changes.now) }
+        requires before { before ≡ id_before (past_of self.nodes.now) node.now.path }
         ensures { Decides result (KeepsOwn (past_of self.entry.nodes.now) self.entry.changes.now
             node.now) }
     {
-        let path = node.path.components();
-        let before = self.nodes.held(self.find_before(path));
+        let before = self.nodes.held(before);
         node.own.rev as usize == self.nodes.count()
-            || is_made(self.changes, path)
+            || is_made(self.changes, node.path.components())
             || before.is_some_and(|before| before.own.rev == node.own.rev)
     }
 
     /// Says whether a node of the block, at its place, keeps the rules.
-    fn is_right_node(self, alloc: Global, place: usize, node: &NodeRev) -> Result<bool, AllocError>
+    fn is_right_node(
+        self,
+        alloc: Global,
+        way: &mut Way<'a>,
+        place: usize,
+        node: &'a NodeRev,
+    ) -> Result<bool, AllocError>
         requires sorted { IsStrictlySortedBy path_cmp (keys_of self.changes.now) }
         requires room { count self.nodes.now < 262144 }
-        ensures { IfOk result (λ answer. Decides answer (IsRightNode
+        requires way { IsWay self way.now }
+        ensures way { IsWay self.entry way.new }
+        ensures right { IfOk result (λ answer. Decides answer (IsRightNode
             (past_of self.entry.nodes.now) self.entry.block.now self.entry.changes.now place
             node.now)) }
     {
@@ -123,10 +141,30 @@ impl NextBlock<'_> {
         if !self.names_own(alloc, node)? || !self.are_right_kids(alloc, place, new, node)? {
             return Ok(false);
         }
-        Ok(self.is_placed(place, node) && self.keeps_own(node))
+        Ok(self.is_placed(way, place, node)? && self.keeps_own(before, node))
     }
 
     /// Says whether each node of the block keeps the rules.
+    fn are_right_on(self, alloc: Global, way: &mut Way<'a>) -> Result<bool, AllocError>
+        requires sorted { IsStrictlySortedBy path_cmp (keys_of self.changes.now) }
+        requires room { count self.nodes.now < 262144 }
+        requires way { IsWay self way.now }
+        ensures { IfOk result (λ answer. Decides answer ((k : ℕ) (node : NodeRev)
+            → slice_get self.entry.block.now.nodes.items k ≡ Some node
+            → IsRightNode (past_of self.entry.nodes.now) self.entry.block.now
+            self.entry.changes.now k node)) }
+    {
+        let nodes = self.block.nodes.as_slice();
+        for place in 0..nodes.len() {
+            if !self.is_right_node(alloc, way, place, &nodes[place])? {
+                return Ok(false);
+            }
+        }
+        Ok(true)
+    }
+
+    /// Says whether each node of the block keeps the rules: its path is followed from where it leaves that of the node in
+    /// front of it.
     pub(crate) fn are_right_nodes(self, alloc: Global) -> Result<bool, AllocError>
         requires sorted { IsStrictlySortedBy path_cmp (keys_of self.changes.now) }
         requires room { count self.nodes.now < 262144 }
@@ -135,12 +173,9 @@ impl NextBlock<'_> {
             → IsRightNode (past_of self.entry.nodes.now) self.entry.block.now
             self.entry.changes.now k node)) }
     {
-        let nodes = self.block.nodes.as_slice();
-        for place in 0..nodes.len() {
-            if !self.is_right_node(alloc, place, &nodes[place])? {
-                return Ok(false);
-            }
-        }
-        Ok(true)
+        let mut way = Way::new(alloc);
+        let answer = self.are_right_on(alloc, &mut way);
+        drop(way);
+        answer
     }
 }

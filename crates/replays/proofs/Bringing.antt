@@ -1,17 +1,17 @@
 -- The commands of an entry bring a mirror from what it had there to what a revision has.
-use Rattle.std.proofs.Common.{◌≡◌, ◌≤◌, ℕ, Bool, true, false, List, [], ◌∷◌, ◌++◌, length, Option, Some, None, option_map, refl, sym, ap, subst, ◌∙◌, append-nil, if◌then◌else◌}
+use Rattle.std.proofs.Common.{◌≡◌, ℕ, Bool, true, false, List, [], ◌∷◌, ◌++◌, length, Option, Some, None, option_map, refl, sym, ap, subst, ◌∙◌, append-nil, if◌then◌else◌}
 use Rattle.std.proofs.lemmas.Bool.{false≢true}
 use Rattle.std.specs.{FinMap.get, Prelude.{IsTrue}}
 use Rattle.svnpath.specs.{Paths.{is_at_or_under, PathValue}}
-use Rattle.svndiff0.specs.Window.{limit}
 use Rattle.repo_api.specs.{Kinds.{content_kind, kind_at, kind_of, node_properties, or_empty}, Properties.property_value, Soundness.AreTrees, States.{RepoState, tree_at, trees_in}, Trees.{content_text, is_directory, is_directory_content, text_of}}
 use Rattle.repo_api.specs.{declared.entry.Content.Content, declared.entry.Content.TheVariants.{Directory, File}, declared.entry.Entry.Entry}
 use Rattle.traces.specs.declared.place.Place.{Place}
 use Rattle.wire_edits.specs.declared.editing.EditorCommand.{EditorCommand}
-use Rattle.replays.specs.{Commands.{close_command, own_commands, text_or_empty, text_there, token_of}, Edits.Inside, Mirrors.{AreSameNodes, is_directory_at, Node, Nodes, nodes_of, Opened, text_at}}
+use Rattle.wire_deltas.specs.Texts.{text_or_empty}
+use Rattle.replays.specs.{Commands.{close_command, own_commands, text_there, token_of}, Edits.Inside, Mirrors.{AreSameNodes, is_directory_at, Node, Nodes, nodes_of, Opened, text_at}}
 use Rattle.replays.specs.{Places.{is_in_part, is_of_kind, place_in}, declared.ask.ReplayAsk.ReplayAsk}
 use Rattle.replays.proofs.{Having.{Has, none_in_file}}
-use Rattle.replays.proofs.{Leading.{HasBeneath, IsBeneath, IsBody}, Mirroring.{directory_closed, file_closed, Leads, leads_on, leads_one, upon}, Owned.{IsContentOf, IsFrom}}
+use Rattle.replays.proofs.{Leading.{HasBeneath, IsBeneath, IsBody}, Mirroring.{directory_closed, file_closed, Leads, leads_on, leads_one, upon}, Owned.{IsContentOf, IsFrom, IsGiven}}
 
 -- commands, in the directory of an entry, bring the entry
 pub record IsBrought (c : RepoState) (ask : ReplayAsk) (r : ℕ) (t : Nodes) (token : List ℕ) (p : PathValue) (os : List Opened) (q : PathValue) (commands : List EditorCommand) : Type 0 where
@@ -26,9 +26,9 @@ Enters c ask r inside q =
     (base : Option Place) (s : Nodes) (os : List Opened) (e : Entry) → get (tree_at c r) q ≡ Some e → is_directory e ≡ true → is_directory_at s q ≡ true → HasBeneath c ask s base q
     → IsBeneath c ask r s (token_of true (length q)) q os (inside base q)
 
--- texts are short enough for deltas
-abbrev pub AreShort : RepoState → Type 0
-AreShort c = (n : ℕ) (q : PathValue) (text : List ℕ) → text_of (get (tree_at c n) q) ≡ Some text → length text ≤ limit
+-- deltas give the texts
+abbrev pub AreGiven : RepoState → Type 0
+AreGiven c = (n : ℕ) (q : PathValue) (text : List ℕ) → text_of (get (tree_at c n) q) ≡ Some text → IsGiven text
 
 -- ---- closes
 

@@ -1,14 +1,13 @@
 -- What is told of an entry and of what is beneath it leads a mirror to the entry of a revision.
-use Rattle.std.proofs.Common.{◌≡◌, ◌≤◌, ℕ, Bool, true, false, List, [], ◌∷◌, ◌++◌, length, Option, Some, None, option_map, refl, sym, ap, subst, ◌∙◌, append-nil, if◌then◌else◌}
+use Rattle.std.proofs.Common.{◌≡◌, ℕ, Bool, true, false, List, [], ◌∷◌, ◌++◌, length, Option, Some, None, option_map, refl, sym, ap, subst, ◌∙◌, append-nil, if◌then◌else◌}
 use Rattle.std.proofs.lemmas.Bool.{false≢true}
 use Rattle.std.specs.{FinMap.get, Prelude.{IsTrue}}
 use Rattle.svnpath.specs.{PathLaws.{same_path_is, same_path-append, under_itself}, Paths.{Component, is_at_or_under, PathValue, same_path}}
-use Rattle.svndiff0.specs.Window.{limit}
 use Rattle.repo_api.specs.{Properties.property_value, Soundness.AreTrees, States.{RepoState, tree_at, trees_in}, Trees.{is_directory, is_directory_content}, declared.entry.Content.TheVariants.File, declared.entry.Entry.Entry}
 use Rattle.traces.specs.declared.place.Place.{Place}
 use Rattle.wire_edits.specs.declared.editing.EditorCommand.{EditorCommand}
 use Rattle.replays.specs.{Commands.{own_commands, token_of}, Mirrors.{AreSameNodes, is_directory_at, Node, Nodes, nodes_of, Opened}, Places.{is_in_part, place_in}, declared.ask.ReplayAsk.ReplayAsk}
-use Rattle.replays.proofs.{Having.{Has, none_in_file, of_place}, Mirroring.{Leads, leads_on, upon}, Owned.{IsEntry, IsFrom, IsTold, own_told}}
+use Rattle.replays.proofs.{Having.{Has, none_in_file, of_place}, Mirroring.{Leads, leads_on, upon}, Owned.{IsEntry, IsFrom, IsGiven, IsTold, own_told}}
 
 -- beneath a path a mirror has what a place has
 abbrev pub HasBeneath : RepoState → ReplayAsk → Nodes → Option Place → PathValue → Type 0
@@ -88,12 +87,12 @@ directory_now t q e node is so directory = ap (λ o. is_directory_at (λ _. o) q
 
 -- so from what is there of an entry, and beneath it, the commands of its body lead to what the revision has
 pub body_led : (c : RepoState) (ask : ReplayAsk) (r : ℕ) (q : PathValue) (listed : Bool) (base : Option Place) (e : Entry) (t : Nodes) (node : Node) (os : List Opened) (inside : List EditorCommand)
-    → AreTrees c.revisions → ask.sends_deltas ≡ true → get (tree_at c r) q ≡ Some e → ((text : List ℕ) → e.content ≡ File text → length text ≤ limit) → t q ≡ Some node → IsFrom c base e node
+    → AreTrees c.revisions → ask.sends_deltas ≡ true → get (tree_at c r) q ≡ Some e → ((text : List ℕ) → e.content ≡ File text → IsGiven text) → t q ≡ Some node → IsFrom c base e node
     → HasBeneath c ask t base q → (is_directory e ≡ false → HasBeneath c ask t None q)
     → (is_directory e ≡ true → (s : Nodes) → is_directory_at s q ≡ true → HasBeneath c ask s base q → IsBeneath c ask r s (token_of true (length q)) q os inside)
     → IsBody c ask r t (token_of (is_directory e) (length q)) q os (own_commands c ask (is_directory e) listed base (place_in r q) ++ (if is_directory e then inside else []))
-body_led c ask r q listed base e t node os inside trees sends stands short is from beneath clear led =
-    by (is_directory e) refl (own_told (trees_in c.revisions) c ask r q listed base e t node os sends stands short is from)
+body_led c ask r q listed base e t node os inside trees sends stands given is from beneath clear led =
+    by (is_directory e) refl (own_told (trees_in c.revisions) c ask r q listed base e t node os sends stands given is from)
   where
     by : (b : Bool) → is_directory e ≡ b → IsTold (trees_in c.revisions) t (token_of b (length q)) q os e (own_commands c ask b listed base (place_in r q))
         → IsBody c ask r t (token_of b (length q)) q os (own_commands c ask b listed base (place_in r q) ++ (if b then inside else []))

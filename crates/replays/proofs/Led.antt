@@ -11,7 +11,7 @@ use Rattle.file_histories.specs.Deleted.{is_modify}
 use Rattle.wire_edits.specs.declared.editing.EditorCommand.{EditorCommand}
 use Rattle.replays.specs.{Commands.{add_command, delete_command, is_empty, open_command}, Edits.{entry_commands, Inside}, Mirrors.{AreSameNodes, is_directory_at, Nodes, Opened}}
 use Rattle.replays.specs.{Places.{change_in, followed, has_text, is_in_part, is_new, is_of_kind, kept, kind_there, may_follow, place_in, source_in}, declared.ask.ReplayAsk.ReplayAsk}
-use Rattle.replays.proofs.{Bringing.{at_itself, AreShort, body, Enters, IsBrought, IsLike, like_by, whole}, Entered.{entry_deleted, IsIn, without}, Standing.{copy_brings, kept_brings, new_brings}}
+use Rattle.replays.proofs.{Bringing.{at_itself, AreGiven, body, Enters, IsBrought, IsLike, like_by, whole}, Entered.{entry_deleted, IsIn, without}, Standing.{copy_brings, kept_brings, new_brings}}
 use Rattle.replays.proofs.{Having.{copy_there, Has, has_deleted, has_none, has_outside, none_beneath, some_by}, Mirroring.{Leads, leads_on, leads_one, upon}}
 
 -- ---- the commands of an entry, by what becomes of it
@@ -132,14 +132,14 @@ both_true false b h = absurd (false≢true h)
 
 -- the entry is added, by a copy where it has a source
 added_led : (c : RepoState) (ask : ReplayAsk) (r : ℕ) (q : PathValue) (inside : Inside) (text : Bool) (e : Entry) (from : Option Source) (t : Nodes) (token : List ℕ) (p : PathValue) (os : List Opened)
-    → AreTrees c.revisions → AreShort c → ask.sends_deltas ≡ true → get (tree_at c r) q ≡ Some e → IsTrue (is_in_part ask q) → Enters c ask r inside q → IsIn t token p q → Has c ask t None q
+    → AreTrees c.revisions → AreGiven c → ask.sends_deltas ≡ true → get (tree_at c r) q ≡ Some e → IsTrue (is_in_part ask q) → Enters c ask r inside q → IsIn t token p q → Has c ask t None q
     → (source : Option Place) → source ≡ followed c ask (content_kind e.content) from
     → IsBrought c ask r t token p os q (add_command (is_directory e) q source ∷ whole c ask r q inside (is_directory e) text (option_or source None))
-added_led c ask r q inside text e from t token p os trees short sends stands within enters so none None is =
-    new_brings c ask r q inside text e t token p os trees short sends stands within enters so none
-added_led c ask r q inside text e None t token p os trees short sends stands within enters so none (Some at) is = absurd (false≢true (sym (ap is_some is)))
-added_led c ask r q inside text e (Some s) t token p os trees short sends stands within enters so none (Some at) is =
-    copy_brings c ask r q inside text at e t token p os trees short sends stands within enters so none (by (may_follow ask s && is_of_kind (kind_at c s.revision s.path) (content_kind e.content)) refl is)
+added_led c ask r q inside text e from t token p os trees given sends stands within enters so none None is =
+    new_brings c ask r q inside text e t token p os trees given sends stands within enters so none
+added_led c ask r q inside text e None t token p os trees given sends stands within enters so none (Some at) is = absurd (false≢true (sym (ap is_some is)))
+added_led c ask r q inside text e (Some s) t token p os trees given sends stands within enters so none (Some at) is =
+    copy_brings c ask r q inside text at e t token p os trees given sends stands within enters so none (by (may_follow ask s && is_of_kind (kind_at c s.revision s.path) (content_kind e.content)) refl is)
   where
     by : (b : Bool) → (may_follow ask s && is_of_kind (kind_at c s.revision s.path) (content_kind e.content)) ≡ b → Some at ≡ (if b then Some (place_in s.revision s.path) else None) → IsLike c at e
     by false h k = absurd (false≢true (sym (ap is_some k)))
@@ -148,10 +148,10 @@ added_led c ask r q inside text e (Some s) t token p os trees short sends stands
         subst (λ x. IsLike c x e) same (like_by c (place_in s.revision s.path) e (both_true (may_follow ask s) (is_of_kind (kind_at c s.revision s.path) (content_kind e.content)) h).1)
 
 present_led : (c : RepoState) (ask : ReplayAsk) (r : ℕ) (q : PathValue) (inside : Inside) (change : Option Change) (listed text : Bool) (e : Entry) (had : Option Place) (t : Nodes) (token : List ℕ) (p : PathValue) (os : List Opened)
-    → AreTrees c.revisions → AreShort c → ask.sends_deltas ≡ true → get (tree_at c r) q ≡ Some e → IsTrue (is_in_part ask q) → Enters c ask r inside q → IsIn t token p q → Has c ask t had q
+    → AreTrees c.revisions → AreGiven c → ask.sends_deltas ≡ true → get (tree_at c r) q ≡ Some e → IsTrue (is_in_part ask q) → Enters c ask r inside q → IsIn t token p q → Has c ask t had q
     → IsBrought c ask r t token p os q
     (piece c ask r q inside (content_kind e.content) (is_present (kind_there c had)) (followed c ask (content_kind e.content) (source_in change)) (kept c change (content_kind e.content) had) listed text)
-present_led c ask r q inside change listed text e had t token p os trees short sends stands within enters so has =
+present_led c ask r q inside change listed text e had t token p os trees given sends stands within enters so has =
     by (not (is_new change) && is_of_kind (kind_there c had) kind) refl
   where
     kind : NodeKind
@@ -176,7 +176,7 @@ present_led c ask r q inside change listed text e had t token p os trees short s
         subst (λ xs. IsBrought c ask r t token p os q xs)
         (λ i. commands (ap (followed c ask kind) (sym (no_source change old)) i) (sym is i) (sym (directory_kind e.content) i)
         (sym (ap (λ o. gone && not (is_some o)) is ∙ and_false gone) i) (sym (present_content e.content) i))
-        (kept_brings c ask r q inside listed text at e t token p os trees short sends stands within enters so (subst (λ o. Has c ask t o q) is has) (like_by c at e like))
+        (kept_brings c ask r q inside listed text at e t token p os trees given sends stands within enters so (subst (λ o. Has c ask t o q) is has) (like_by c at e like))
 
     adds : IsBrought c ask r t token p os q (commands (followed c ask kind (source_in change)) None (is_directory_kind kind) (gone && true) (is_present kind))
     adds =
@@ -185,7 +185,7 @@ present_led c ask r q inside change listed text e had t token p os trees short s
         (λ i. commands (followed c ask kind (source_in change)) None (sym (directory_kind e.content) i) (gone && true) (sym (present_content e.content) i))
         (after_cleared c ask r t token p os q (if gone && true then delete_command q ∷ [] else [])
         (add_command (is_directory e) q (followed c ask kind (source_in change)) ∷ whole c ask r q inside (is_directory e) text (option_or (followed c ask kind (source_in change)) None)) first
-        (added_led c ask r q inside text e (source_in change) first.after token p os trees short sends stands within enters (still_in t first.after token p q first.elsewhere so) first.here
+        (added_led c ask r q inside text e (source_in change) first.after token p os trees given sends stands within enters (still_in t first.after token p q first.elsewhere so) first.here
         (followed c ask kind (source_in change)) refl))
 
     by : (b : Bool) → (not (is_new change) && is_of_kind (kind_there c had) kind) ≡ b
@@ -201,8 +201,8 @@ present_led c ask r q inside change listed text e had t token p os trees short s
 -- ---- an entry
 
 pub entry_led : (c : RepoState) (ask : ReplayAsk) (r : ℕ) (q : PathValue) (inside : Inside) (had : Option Place) (t : Nodes) (token : List ℕ) (p : PathValue) (os : List Opened)
-    → AreTrees c.revisions → AreShort c → ask.sends_deltas ≡ true → Enters c ask r inside q → IsIn t token p q → Has c ask t had q → IsBrought c ask r t token p os q (entry_commands c ask r had q inside)
-entry_led c ask r q inside had t token p os trees short sends enters so has = by (is_in_part ask q) refl
+    → AreTrees c.revisions → AreGiven c → ask.sends_deltas ≡ true → Enters c ask r inside q → IsIn t token p q → Has c ask t had q → IsBrought c ask r t token p os q (entry_commands c ask r had q inside)
+entry_led c ask r q inside had t token p os trees given sends enters so has = by (is_in_part ask q) refl
   where
     change : Option Change
     change = change_in (history_of c r) q
@@ -212,7 +212,7 @@ entry_led c ask r q inside had t token p os trees short sends enters so has = by
 
     there : IsTrue (is_in_part ask q) → (o : Option Entry) → get (tree_at c r) q ≡ o → IsBrought c ask r t token p os q (commands (kind_of o))
     there within None is = absent_led c ask r q inside change (followed c ask kinds.Absent (source_in change)) (is_some change) (has_text change) had t token p os trees is within so has
-    there within (Some e) is = present_led c ask r q inside change (is_some change) (has_text change) e had t token p os trees short sends is within enters so has
+    there within (Some e) is = present_led c ask r q inside change (is_some change) (has_text change) e had t token p os trees given sends is within enters so has
 
     by : (b : Bool) → is_in_part ask q ≡ b → IsBrought c ask r t token p os q (if is_in_part ask q then commands (kind_at c r q) else [])
     by true h = subst (λ b. IsBrought c ask r t token p os q (if b then commands (kind_at c r q) else [])) (sym h) (there h (get (tree_at c r) q) refl)

@@ -8,7 +8,8 @@ use Rattle.svndiff0.specs.Document.{document_text}
 use Rattle.repo_api.specs.{Trees.Tree, declared.entry.Content.TheVariants.{File}}
 use Rattle.wire_edits.specs.declared.editing.EditorCommand.{EditorCommand}
 use Rattle.wire_edits.specs.declared.editing.EditorCommand.TheVariants.{ApplyTextDelta, TextDeltaChunk, TextDeltaEnd, CloseDirectory, CloseFile}
-use Rattle.replays.specs.{Commands.{property_command, text_commands}, Mirrors.{all_mirrored, closes_file, ends_delta, Mirror, mirrored, Node, Nodes, Opened, sets_text, text_at, with_node, with_value}}
+use Rattle.wire_deltas.specs.Texts.{text_commands}
+use Rattle.replays.specs.{Commands.property_command, Mirrors.{all_mirrored, closes_file, ends_delta, Mirror, mirrored, Node, Nodes, Opened, sets_text, text_at, with_node, with_value}}
 use Rattle.replays.proofs.Values.{with_values}
 
 -- ---- commands one after another

@@ -24,14 +24,14 @@ own_is c ask d e listed base at token changes told kind named differ text = λ i
 module _ {S : Type 0} (writes : S → S → List ℕ → Type 0) (more : (s t u : S) (first second : List ℕ) → writes s t first → writes t u second → writes s u (first ++ second)) where
   -- the changes were written, and the text as far as it was
   pub own_sent : {T E : Type 0} (r : Result T E) (s t u : S) (c : RepoState) (ask : ReplayAsk) (d e listed : Bool) (base : Option Place) (at : Place) (token : List ℕ)
-      (changes : List (List ℕ × Option (List ℕ))) (told : Option (List ℕ)) → d ≡ e → token ≡ token_of e (length at.path) → changes ≡ due_changes c ask base at
-      → told ≡ due_text c listed base at → writes s t (command_bytes (map (property_command d token) changes))
-      → ((before : List ℕ) → Writes r (writes t u) (command_bytes (text_told_commands ask.sends_deltas token before told)))
+      (changes : List (List ℕ × Option (List ℕ))) (told : Option (List ℕ)) (before : List ℕ) → d ≡ e → token ≡ token_of e (length at.path) → changes ≡ due_changes c ask base at
+      → told ≡ due_text c listed base at → before ≡ text_there c base → writes s t (command_bytes (map (property_command d token) changes))
+      → Writes r (writes t u) (command_bytes (text_told_commands ask.sends_deltas token before told))
       → Writes r (writes s u) (command_bytes (own_commands c ask e listed base at))
-  own_sent r s t u c ask d e listed base at token changes told kind named differ text first second =
+  own_sent r s t u c ask d e listed base at token changes told before kind named differ text had first second =
       subst (λ xs. Writes r (writes s u) (command_bytes xs)) (own_is c ask d e listed base at token changes told kind named differ text)
       (sent_behind writes more r s t u (map (property_command d token) changes) (text_told_commands ask.sends_deltas token (text_there c base) told) first
-      (second (text_there c base)))
+      (subst (λ b. Writes r (writes t u) (command_bytes (text_told_commands ask.sends_deltas token b told))) had second))
 
   -- a part of the changes was written
   pub own_part : (s t : S) (c : RepoState) (ask : ReplayAsk) (d e listed : Bool) (base : Option Place) (at : Place) (token : List ℕ) (changes : List (List ℕ × Option (List ℕ)))

@@ -1,19 +1,22 @@
 -- What is told of an entry itself leads a mirror from what it has of the entry to the entry.
-use Rattle.std.proofs.Common.{◌≡◌, ◌≤◌, ℕ, Bool, true, false, not, ◌||◌, List, [], ◌∷◌, ◌++◌, length, map, Option, Some, None, option_map, refl, sym, ap, subst, ◌∙◌, if◌then◌else◌}
+use Rattle.std.proofs.Common.{◌≡◌, ℕ, Bool, true, false, not, ◌||◌, List, [], ◌∷◌, ◌++◌, length, map, Option, Some, None, option_map, refl, sym, ap, subst, ◌∙◌, if◌then◌else◌}
 use Rattle.std.proofs.lemmas.Bool.{false≢true}
-use Rattle.std.specs.FinMap.{get}
+use Rattle.std.specs.{FinMap.get, List.concat, Prelude.Ok}
 use Rattle.svnpath.specs.{PathLaws.same_component_is, Paths.{PathValue, same_path}}
-use Rattle.svndiff0.specs.Window.{limit}
+use Rattle.svndiff0.specs.Document.{document_text}
 use Rattle.repo_api.specs.{Kinds.{node_properties, or_empty, text_at as text_stored}, Properties.{property_value}, States.{RepoState, tree_at}, Trees.{content_text, is_directory, text_of, Tree}}
 use Rattle.repo_api.specs.{declared.entry.Content.Content, declared.entry.Content.TheVariants.{Directory, File}, declared.entry.Entry.Entry}
 use Rattle.traces.specs.declared.place.Place.{Place}
 use Rattle.file_histories.specs.Differing.{differing}
-use Rattle.wire_deltas.specs.Deltas.{delta_chunks}
-use Rattle.wire_deltas.proofs.Given.{given}
+use Rattle.text_deltas.specs.Deltas.{delta_chunks}
 use Rattle.wire_edits.specs.declared.editing.EditorCommand.{EditorCommand}
 use Rattle.wire_forms.specs.Forms.{is_name}
 use Rattle.replays.specs.{Commands.{changes_sent, own_commands, properties_there, property_command, text_there, text_told_commands, token_of, told_if_other}, Mirrors.{all_mirrored, Node, Nodes, Opened, text_at}, Places.place_in, declared.ask.ReplayAsk.ReplayAsk}
 use Rattle.replays.proofs.{Mirroring.{all_here, all_set, all_there, Leads, leads_on, node_here, node_there, properties_set, text_set, upon, with_text}, Values.{kept_content, values_after, with_values}}
+
+-- over any text a delta gives this one
+abbrev pub IsGiven : List ℕ → Type 0
+IsGiven text = (before : List ℕ) → document_text before (concat (delta_chunks before text)) ≡ Ok text
 
 -- what a mirror has of an entry before it is told of it: what is at a place, or a new entry; of a file the text, too
 abbrev pub IsContentOf : Content → Content → List ℕ → Type 0
@@ -68,11 +71,11 @@ file_text t q node text is content = ap (λ o. text_at (λ _. o) q) (is ∙ ap (
 
 -- the text is told, if it is
 text_leads : (trees : ℕ → Tree) (t : Nodes) (token : List ℕ) (q : PathValue) (os : List Opened) (listed : Bool) (before : List ℕ) (content : Content) (node : Node)
-    → ((text : List ℕ) → content ≡ File text → length text ≤ limit) → t q ≡ Some node → IsContentOf content node.0 before
+    → ((text : List ℕ) → content ≡ File text → IsGiven text) → t q ≡ Some node → IsContentOf content node.0 before
     → (after : Nodes) × Leads trees (upon t token q None os) (text_told_commands true token before (told_if_other listed before (content_text content))) (upon after token q None os)
     × (after q ≡ Some (content, node.1)) × ((x : PathValue) → same_path q x ≡ false → after x ≡ t x)
-text_leads trees t token q os listed before Directory node short is from = (t, refl, is ∙ ap (λ x. Some (x, node.1)) from, λ x other. refl)
-text_leads trees t token q os listed before (File text) node short is from = by (listed || not (is_name before text)) refl
+text_leads trees t token q os listed before Directory node given is from = (t, refl, is ∙ ap (λ x. Some (x, node.1)) from, λ x other. refl)
+text_leads trees t token q os listed before (File text) node given is from = by (listed || not (is_name before text)) refl
   where
     commands : Bool → List EditorCommand
     commands b = text_told_commands true token before (if b then Some text else None)
@@ -81,7 +84,7 @@ text_leads trees t token q os listed before (File text) node short is from = by 
         × (after q ≡ Some (File text, node.1)) × ((x : PathValue) → same_path q x ≡ false → after x ≡ t x)
     by true told = (
       with_text q text t,
-      text_set trees t token q None before text (delta_chunks before text) os (file_text t q node before is from) (given before text (short text refl)),
+      text_set trees t token q None before text (delta_chunks before text) os (file_text t q node before is from) (given text refl before),
       node_here q (option_map (λ (n : Node). (File text, n.1)) (t q)) t ∙ ap (option_map (λ (n : Node). (File text, n.1))) is,
       λ x other. node_there q x (option_map (λ (n : Node). (File text, n.1)) (t q)) t other,
     )
@@ -94,16 +97,16 @@ text_leads trees t token q os listed before (File text) node short is from = by 
 
 -- all that is told of an entry leads to it
 pub own_told : (trees : ℕ → Tree) (c : RepoState) (ask : ReplayAsk) (r : ℕ) (q : PathValue) (listed : Bool) (base : Option Place) (e : Entry) (t : Nodes) (node : Node) (os : List Opened)
-    → ask.sends_deltas ≡ true → get (tree_at c r) q ≡ Some e → ((text : List ℕ) → e.content ≡ File text → length text ≤ limit) → t q ≡ Some node → IsFrom c base e node
+    → ask.sends_deltas ≡ true → get (tree_at c r) q ≡ Some e → ((text : List ℕ) → e.content ≡ File text → IsGiven text) → t q ≡ Some node → IsFrom c base e node
     → IsTold trees t (token_of (is_directory e) (length q)) q os e (own_commands c ask (is_directory e) listed base (place_in r q))
-own_told trees c ask r q listed base e t node os sends stands short is from =
+own_told trees c ask r q listed base e t node os sends stands given is from =
     let d = is_directory e in
     let token = token_of d (length q) in
     let changes = differing (properties_there c base) e.properties in
     let set = all_set q changes t in
     let content : (with_values changes node).0 ≡ node.0 = kept_content changes node in
     let text =
-    text_leads trees set token q os listed (text_there c base) e.content (with_values changes node) short (all_here q changes t node is)
+    text_leads trees set token q os listed (text_there c base) e.content (with_values changes node) given (all_here q changes t node is)
     (subst (λ x. IsContentOf e.content x (text_there c base)) (sym content) from.content) in
     record {
       after = text.0;

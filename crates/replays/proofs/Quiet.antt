@@ -11,7 +11,8 @@ use Rattle.repo_api.specs.declared.entry.NodeKind.TheVariants as kinds
 use Rattle.traces.specs.declared.place.Place.{Place}
 use Rattle.file_histories.specs.Differing.{differing, is_other, names_in_both}
 use Rattle.wire_edits.specs.declared.editing.EditorCommand.{EditorCommand}
-use Rattle.replays.specs.Commands.{changes_sent, delete_command, is_empty, own_commands, property_command, text_or_empty, text_told_commands, token_of, told_if_other}
+use Rattle.wire_deltas.specs.Texts.{text_or_empty}
+use Rattle.replays.specs.Commands.{changes_sent, delete_command, is_empty, own_commands, property_command, text_told_commands, token_of, told_if_other}
 use Rattle.replays.specs.Edits.{below, body_of, entry_commands, Inside, is_named, names_of, names_there, standing_commands}
 use Rattle.replays.specs.Places.{change_in, child_of, is_in_part, is_of_kind, kept, kind_there, place_in, run_at}
 use Rattle.replays.specs.{Shaping.{shape_at, shape_by}, Visiting.{HasNothingAt, IsNowhere, IsQuietName}, declared.ask.ReplayAsk.ReplayAsk, declared.places.Shape.Shape}

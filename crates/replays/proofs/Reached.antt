@@ -9,7 +9,7 @@ use Rattle.wire_edits.specs.declared.editing.EditorCommand.{EditorCommand}
 use Rattle.wire_edits.specs.declared.editing.EditorCommand.TheVariants.{OpenRoot, TargetRevision}
 use Rattle.replays.specs.{Commands.{is_empty, token_of}, Edits.{below, edit_commands, entry_commands, Inside, names_of, names_there}, Mirrors.{all_mirrored, AreSameInPart, AreSameNodes, is_directory_at, LeadsToRevision, Mirror, Nodes, nodes_of, Opened}}
 use Rattle.replays.specs.{Places.{change_in, child_of, has_text, is_in_part, place_in}, declared.ask.ReplayAsk.ReplayAsk}
-use Rattle.replays.proofs.{Bringing.{AreShort, at_itself, beneath_of, body, body_closed, Enters, IsBrought, IsLike, IsReady, ready_by, whole}, Having.{Has, has_still, none_beneath, none_by, of_place, tree_where}, Joined.{among_of, AreInOrder, by_bytes, order_of}}
+use Rattle.replays.proofs.{Bringing.{AreGiven, at_itself, beneath_of, body, body_closed, Enters, IsBrought, IsLike, IsReady, ready_by, whole}, Having.{Has, has_still, none_beneath, none_by, of_place, tree_where}, Joined.{among_of, AreInOrder, by_bytes, order_of}}
 use Rattle.replays.proofs.{Leading.{HasBeneath, IsBeneath, IsBody}, Led.entry_led, Mirroring.{Leads, leads_on, upon}, NameSets.among_there, Runs.under_trans, Standing.ready_body, Values.turned}
 
 -- ---- names
@@ -81,21 +81,21 @@ each_step c ask r p os name names commands others t order first rest = record {
         (has_still c ask first.after rest.after (Some (place_in r (p ++ name ∷ []))) (p ++ name ∷ [])
         (λ s under. rest.elsewhere s (λ n with. apart_at p n name s (turned n name ∙ other_name name n names order with) under)) first.here)
 
-each_led : (c : RepoState) (ask : ReplayAsk) (r : ℕ) (inside : Inside) (base : Option Place) (p : PathValue) (os : List Opened) → AreTrees c.revisions → AreShort c → ask.sends_deltas ≡ true
+each_led : (c : RepoState) (ask : ReplayAsk) (r : ℕ) (inside : Inside) (base : Option Place) (p : PathValue) (os : List Opened) → AreTrees c.revisions → AreGiven c → ask.sends_deltas ≡ true
     → (names : List Component) → AreInOrder names → ((name : Component) → is_name_among names name ≡ true → All IsComponent (p ++ name ∷ []))
     → ((name : Component) → Enters c ask r inside (p ++ name ∷ [])) → (t : Nodes) → is_directory_at t p ≡ true
     → ((name : Component) → is_name_among names name ≡ true → Has c ask t (child_of name base) (p ++ name ∷ []))
     → IsEach c ask r t (token_of true (length p)) p os names (flat_map (λ name. entry_commands c ask r (child_of name base) (p ++ name ∷ []) inside) names)
-each_led c ask r inside base p os trees short sends [] order named enters t directory has =
+each_led c ask r inside base p os trees given sends [] order named enters t directory has =
     record { after = t; leads = refl; here = λ name among. absurd (false≢true among); elsewhere = λ x out. refl }
-each_led c ask r inside base p os trees short sends (name ∷ names) order named enters t directory has =
+each_led c ask r inside base p os trees given sends (name ∷ names) order named enters t directory has =
     let at_first : is_name_among (name ∷ names) name ≡ true = or_left (same_component name name) (is_name_among names name) (same_component_refl name) in
     let first =
-    entry_led c ask r (p ++ name ∷ []) inside (child_of name base) t (token_of true (length p)) p os trees short sends (enters name)
+    entry_led c ask r (p ++ name ∷ []) inside (child_of name base) t (token_of true (length p)) p os trees given sends (enters name)
     (record { name = name; is = refl; named = named name at_first; token_is = refl; directory = directory }) (has name at_first) in
     each_step c ask r p os name names (entry_commands c ask r (child_of name base) (p ++ name ∷ []) inside)
     (flat_map (λ k. entry_commands c ask r (child_of k base) (p ++ k ∷ []) inside) names) t order first
-    (each_led c ask r inside base p os trees short sends names (sorted_tail by_bytes name names order) (λ k among. named k (or_right (same_component k name) (is_name_among names k) among)) enters
+    (each_led c ask r inside base p os trees given sends names (sorted_tail by_bytes name names order) (λ k among. named k (or_right (same_component k name) (is_name_among names k) among)) enters
     first.after (ap (λ o. is_directory_at (λ _. o) p) (first.elsewhere p (out_of p name)) ∙ directory)
     (λ k among. has_still c ask t first.after (child_of k base) (p ++ k ∷ [])
     (λ s under. first.elsewhere s (apart_at p name k s (other_name name k names order among) under)) (has k (or_right (same_component k name) (is_name_among names k) among))))
@@ -235,16 +235,16 @@ too_deep n m le more = omega (arith, le, more)
 deeper : (n k m l : ℕ) → suc m ≤ suc n + k → l ≡ k + 1 → suc m ≤ n + l
 deeper n k m l fuel is = omega (arith, fuel, is)
 
-pub below_led : (n : ℕ) (c : RepoState) (ask : ReplayAsk) (r : ℕ) → AreTrees c.revisions → AreShort c → ask.sends_deltas ≡ true → (base : Option Place) (p : PathValue) (s : Nodes) (os : List Opened) (e : Entry)
+pub below_led : (n : ℕ) (c : RepoState) (ask : ReplayAsk) (r : ℕ) → AreTrees c.revisions → AreGiven c → ask.sends_deltas ≡ true → (base : Option Place) (p : PathValue) (s : Nodes) (os : List Opened) (e : Entry)
     → get (tree_at c r) p ≡ Some e → is_directory e ≡ true → is_directory_at s p ≡ true → HasBeneath c ask s base p → suc DEPTH_LIMIT ≤ n + length p
     → IsBeneath c ask r s (token_of true (length p)) p os (below n c ask r base p)
-below_led zero c ask r trees short sends base p s os e stands directory now had fuel =
+below_led zero c ask r trees given sends base p s os e stands directory now had fuel =
     absurd (too_deep (length p) DEPTH_LIMIT ((tree_where c.revisions r p trees (ap is_some stands)).right p (ap is_some stands)).depth fuel)
-below_led (suc n) c ask r trees short sends base p s os e stands directory now had fuel =
+below_led (suc n) c ask r trees given sends base p s os e stands directory now had fuel =
     beneath_led c ask r base p s os (below (suc n) c ask r base p) trees had
-    (each_led c ask r (below n c ask r) base p os trees short sends (names_of c r base p) (order_of (names_at c r p ++ names_there c base))
+    (each_led c ask r (below n c ask r) base p os trees given sends (names_of c r base p) (order_of (names_at c r p ++ names_there c base))
     (λ name among. names_named c r base p name trees ((tree_where c.revisions r p trees (ap is_some stands)).right p (ap is_some stands)).components among)
-    (λ name b t o x there kind opens have. below_led n c ask r trees short sends b (p ++ name ∷ []) t o x there kind opens have (deeper n (length p) DEPTH_LIMIT (length (p ++ name ∷ [])) fuel (length_push p name)))
+    (λ name b t o x there kind opens have. below_led n c ask r trees given sends b (p ++ name ∷ []) t o x there kind opens have (deeper n (length p) DEPTH_LIMIT (length (p ++ name ∷ [])) fuel (length_push p name)))
     s now (λ name among. child_has c ask s base p name had))
 
 -- ---- the edit
@@ -270,8 +270,8 @@ root_in_part ask = or_right (is_at_or_under [] ask.part) (is_at_or_under ask.par
 before_is : (r l : ℕ) → r < l → r - 1 < l
 before_is r l less = omega (arith, less)
 
-pub edit_led : (c : RepoState) (ask : ReplayAsk) (r : ℕ) → AreTrees c.revisions → r < length c.revisions → ask.sends_deltas ≡ true → AreShort c → LeadsToRevision c ask r (edit_commands c ask r)
-edit_led c ask r trees less sends short before same = by (is_some change || not (is_empty commands)) refl
+pub edit_led : (c : RepoState) (ask : ReplayAsk) (r : ℕ) → AreTrees c.revisions → r < length c.revisions → ask.sends_deltas ≡ true → AreGiven c → LeadsToRevision c ask r (edit_commands c ask r)
+edit_led c ask r trees less sends given before same = by (is_some change || not (is_empty commands)) refl
   where
     change : Option Change
     change = change_in (history_of c r) []
@@ -306,8 +306,8 @@ edit_led c ask r trees less sends short before same = by (is_some change || not 
     led : IsBody c ask r before (token_of true 0) [] [] commands
     led =
         subst (λ d. IsBody c ask r before (token_of d 0) [] [] (body c ask r [] inside d (has_text change) (Some at))) now.directory
-        (ready_body c ask r [] inside (has_text change) (Some at) now.entry before [] trees short sends now.is
-        (λ b t o x there kind opens have. below_led (suc DEPTH_LIMIT) c ask r trees short sends b [] t o x there kind opens have (omega arith)) ready
+        (ready_body c ask r [] inside (has_text change) (Some at) now.entry before [] trees given sends now.is
+        (λ b t o x there kind opens have. below_led (suc DEPTH_LIMIT) c ask r trees given sends b [] t o x there kind opens have (omega arith)) ready
         (beneath_of c ask before (Some at) [] has) (λ file. absurd (false≢true (sym file ∙ now.directory))))
 
     by : (b : Bool) → (is_some change || not (is_empty commands)) ≡ b

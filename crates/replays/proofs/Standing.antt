@@ -9,29 +9,29 @@ use Rattle.traces.specs.declared.place.Place.{Place}
 use Rattle.wire_edits.specs.declared.editing.EditorCommand.{EditorCommand}
 use Rattle.replays.specs.{Commands.{add_command, is_empty, open_command, token_of}, Edits.Inside, Mirrors.{all_mirrored, AreSameNodes, is_directory_at, Mirror, mirrored, new_node, Node, Nodes, nodes_of, Opened, with_copy, with_node}}
 use Rattle.replays.specs.{Places.{is_in_part, place_in}, declared.ask.ReplayAsk.ReplayAsk}
-use Rattle.replays.proofs.{Bringing.{at_itself, AreShort, beneath_of, body, body_closed, clear_of, Enters, IsBrought, IsLike, IsReady, ready_by, whole}, Entered.{directory_opened, entry_added, entry_copied, file_opened, IsIn, new_content}}
+use Rattle.replays.proofs.{Bringing.{at_itself, AreGiven, beneath_of, body, body_closed, clear_of, Enters, IsBrought, IsLike, IsReady, ready_by, whole}, Entered.{directory_opened, entry_added, entry_copied, file_opened, IsIn, new_content}}
 use Rattle.replays.proofs.{Having.{copy_there, Has, has_copied, some_by, tree_where}, Leading.{body_led, HasBeneath, IsBody}, Mirroring.{leads_first, node_here, node_there, upon}, Owned.{IsContentOf}}
 
 -- ---- the body of an entry that is open
 
 -- from what is there, the body leads to the entry
 pub ready_body : (c : RepoState) (ask : ReplayAsk) (r : ℕ) (q : PathValue) (inside : Inside) (listed : Bool) (base : Option Place) (e : Entry) (t : Nodes) (os : List Opened)
-    → AreTrees c.revisions → AreShort c → ask.sends_deltas ≡ true → get (tree_at c r) q ≡ Some e → Enters c ask r inside q → IsReady c base e (t q)
+    → AreTrees c.revisions → AreGiven c → ask.sends_deltas ≡ true → get (tree_at c r) q ≡ Some e → Enters c ask r inside q → IsReady c base e (t q)
     → HasBeneath c ask t base q → (is_directory e ≡ false → HasBeneath c ask t None q)
     → IsBody c ask r t (token_of (is_directory e) (length q)) q os (body c ask r q inside (is_directory e) listed base)
-ready_body c ask r q inside listed base e t os trees short sends stands enters ready beneath clear =
-    body_led c ask r q listed base e t ready.node os (inside base q) trees sends stands (λ text is. short r q text (ap text_of stands ∙ ap content_text is)) ready.is ready.from beneath clear
+ready_body c ask r q inside listed base e t os trees given sends stands enters ready beneath clear =
+    body_led c ask r q listed base e t ready.node os (inside base q) trees sends stands (λ text is. given r q text (ap text_of stands ∙ ap content_text is)) ready.is ready.from beneath clear
     (λ directory s now had. enters base s os e stands directory now had)
 
 -- an entry is entered, and then its body and its close bring it
 entered_brings : (c : RepoState) (ask : ReplayAsk) (r : ℕ) (q : PathValue) (inside : Inside) (listed : Bool) (base : Option Place) (e : Entry) (t s : Nodes) (token : List ℕ) (p : PathValue) (os : List Opened)
-    (first : EditorCommand) → AreTrees c.revisions → AreShort c → ask.sends_deltas ≡ true → get (tree_at c r) q ≡ Some e → IsTrue (is_in_part ask q) → Enters c ask r inside q
+    (first : EditorCommand) → AreTrees c.revisions → AreGiven c → ask.sends_deltas ≡ true → get (tree_at c r) q ≡ Some e → IsTrue (is_in_part ask q) → Enters c ask r inside q
     → mirrored (trees_in c.revisions) (upon t token p None os) first ≡ Some (upon s (token_of (is_directory e) (length q)) q None (record { token = token; path = p; delta = None } ∷ os))
     → ((x : PathValue) → is_at_or_under x q ≡ false → s x ≡ t x) → IsReady c base e (s q) → HasBeneath c ask s base q → (is_directory e ≡ false → HasBeneath c ask s None q)
     → IsBrought c ask r t token p os q (first ∷ whole c ask r q inside (is_directory e) listed base)
-entered_brings c ask r q inside listed base e t s token p os first trees short sends stands within enters enter same ready beneath clear =
+entered_brings c ask r q inside listed base e t s token p os first trees given sends stands within enters enter same ready beneath clear =
     let around = record { token = token; path = p; delta = None } ∷ os in
-    let led = ready_body c ask r q inside listed base e s around trees short sends stands enters ready beneath clear in
+    let led = ready_body c ask r q inside listed base e s around trees given sends stands enters ready beneath clear in
     record {
       after = led.after;
       leads =
@@ -65,11 +65,11 @@ tree_of_some : (m n : Mirror) → ◌≡◌ {A = Option Mirror} (Some m) (Some n
 tree_of_some m n is = ap (λ o. (unwrap_or o m).tree) is
 
 pub kept_brings : (c : RepoState) (ask : ReplayAsk) (r : ℕ) (q : PathValue) (inside : Inside) (listed text : Bool) (at : Place) (e : Entry) (t : Nodes) (token : List ℕ) (p : PathValue) (os : List Opened)
-    → AreTrees c.revisions → AreShort c → ask.sends_deltas ≡ true → get (tree_at c r) q ≡ Some e → IsTrue (is_in_part ask q) → Enters c ask r inside q → IsIn t token p q
+    → AreTrees c.revisions → AreGiven c → ask.sends_deltas ≡ true → get (tree_at c r) q ≡ Some e → IsTrue (is_in_part ask q) → Enters c ask r inside q → IsIn t token p q
     → Has c ask t (Some at) q → IsLike c at e
     → IsBrought c ask r t token p os q
     (if listed || not (is_empty (body c ask r q inside (is_directory e) text (Some at))) then open_command (is_directory e) q ∷ whole c ask r q inside (is_directory e) text (Some at) else [])
-kept_brings c ask r q inside listed text at e t token p os trees short sends stands within enters so had like = by (listed || not (is_empty (body c ask r q inside (is_directory e) text (Some at)))) refl
+kept_brings c ask r q inside listed text at e t token p os trees given sends stands within enters so had like = by (listed || not (is_empty (body c ask r q inside (is_directory e) text (Some at)))) refl
   where
     ready : IsReady c (Some at) e (t q)
     ready = ready_by c at e (t q) like (at_itself c ask t at q e within had like)
@@ -86,11 +86,11 @@ kept_brings c ask r q inside listed text at e t token p os trees short sends sta
     by : (b : Bool) → (listed || not (is_empty (body c ask r q inside (is_directory e) text (Some at)))) ≡ b
         → IsBrought c ask r t token p os q (if b then open_command (is_directory e) q ∷ whole c ask r q inside (is_directory e) text (Some at) else [])
     by true named =
-        entered_brings c ask r q inside text (Some at) e t t token p os (open_command (is_directory e) q) trees short sends stands within enters
+        entered_brings c ask r q inside text (Some at) e t t token p os (open_command (is_directory e) q) trees given sends stands within enters
         (opened_by c t token p q os (is_directory e) so (ap is_some ready.is) kind_now) (λ x out. refl) ready beneath clear
     by false unnamed =
         let none = empty_is (body c ask r q inside (is_directory e) text (Some at)) (not_true (is_empty (body c ask r q inside (is_directory e) text (Some at))) (or_none listed (not (is_empty (body c ask r q inside (is_directory e) text (Some at)))) unnamed)) in
-        let led = ready_body c ask r q inside text (Some at) e t (record { token = token; path = p; delta = None } ∷ os) trees short sends stands enters ready beneath clear in
+        let led = ready_body c ask r q inside text (Some at) e t (record { token = token; path = p; delta = None } ∷ os) trees given sends stands enters ready beneath clear in
         let same : t ≡ led.after =
         tree_of_some (upon t (token_of (is_directory e) (length q)) q None (record { token = token; path = p; delta = None } ∷ os)) (upon led.after (token_of (is_directory e) (length q)) q None (record { token = token; path = p; delta = None } ∷ os))
         (ap (all_mirrored (trees_in c.revisions) (upon t (token_of (is_directory e) (length q)) q None (record { token = token; path = p; delta = None } ∷ os))) (sym none) ∙ led.leads) in
@@ -129,24 +129,24 @@ not_beneath : (q : PathValue) (name : Component) (rest : PathValue) → same_pat
 not_beneath q name rest = ap (λ x. same_path x (q ++ name ∷ rest)) (sym (append-nil q)) ∙ same_path-append q [] (name ∷ rest)
 
 pub new_brings : (c : RepoState) (ask : ReplayAsk) (r : ℕ) (q : PathValue) (inside : Inside) (text : Bool) (e : Entry) (t : Nodes) (token : List ℕ) (p : PathValue) (os : List Opened)
-    → AreTrees c.revisions → AreShort c → ask.sends_deltas ≡ true → get (tree_at c r) q ≡ Some e → IsTrue (is_in_part ask q) → Enters c ask r inside q → IsIn t token p q
+    → AreTrees c.revisions → AreGiven c → ask.sends_deltas ≡ true → get (tree_at c r) q ≡ Some e → IsTrue (is_in_part ask q) → Enters c ask r inside q → IsIn t token p q
     → Has c ask t None q → IsBrought c ask r t token p os q (add_command (is_directory e) q None ∷ whole c ask r q inside (is_directory e) text None)
-new_brings c ask r q inside text e t token p os trees short sends stands within enters so none =
+new_brings c ask r q inside text e t token p os trees given sends stands within enters so none =
     let made = Some (new_node (new_content (is_directory e))) in
     let beneath : HasBeneath c ask (with_node q made t) None q =
     λ name rest part. subst (λ o. AreSameNodes o None) (sym (node_there q (q ++ name ∷ rest) made t (not_beneath q name rest))) (none (name ∷ rest) part) in
-    entered_brings c ask r q inside text None e t (with_node q made t) token p os (add_command (is_directory e) q None) trees short sends stands within enters
+    entered_brings c ask r q inside text None e t (with_node q made t) token p os (add_command (is_directory e) q None) trees given sends stands within enters
     (entry_added (trees_in c.revisions) t token p q None os (is_directory e) so (none_at c ask t q within none)) (λ x out. node_there q x made t (not_here q x out))
     (new_ready c e (with_node q made t q) (node_here q made t)) beneath (λ file. beneath)
 
 pub copy_brings : (c : RepoState) (ask : ReplayAsk) (r : ℕ) (q : PathValue) (inside : Inside) (text : Bool) (at : Place) (e : Entry) (t : Nodes) (token : List ℕ) (p : PathValue) (os : List Opened)
-    → AreTrees c.revisions → AreShort c → ask.sends_deltas ≡ true → get (tree_at c r) q ≡ Some e → IsTrue (is_in_part ask q) → Enters c ask r inside q → IsIn t token p q
+    → AreTrees c.revisions → AreGiven c → ask.sends_deltas ≡ true → get (tree_at c r) q ≡ Some e → IsTrue (is_in_part ask q) → Enters c ask r inside q → IsIn t token p q
     → Has c ask t None q → IsLike c at e → IsBrought c ask r t token p os q (add_command (is_directory e) q (Some at) ∷ whole c ask r q inside (is_directory e) text (Some at))
-copy_brings c ask r q inside text at e t token p os trees short sends stands within enters so none like =
+copy_brings c ask r q inside text at e t token p os trees given sends stands within enters so none like =
     let source = nodes_of (trees_in c.revisions at.revision) in
     let there : is_some (trees_in c.revisions at.revision at.path) ≡ true = ap is_some like.stands in
     let had = has_copied c ask t at.revision at.path q in
-    entered_brings c ask r q inside text (Some at) e t (with_copy q source at.path t) token p os (add_command (is_directory e) q (Some at)) trees short sends stands within enters
+    entered_brings c ask r q inside text (Some at) e t (with_copy q source at.path t) token p os (add_command (is_directory e) q (Some at)) trees given sends stands within enters
     (entry_copied (trees_in c.revisions) t token p q None os (is_directory e) at so (none_at c ask t q within none)
     ((tree_where c.revisions at.revision at.path trees there).right at.path there).components
     (ap (λ o. is_some {T = Node} (option_map (λ (y : Entry). (y.content, property_value y.properties)) o)) like.stands)

@@ -1,12 +1,8 @@
 -- Commands that are written one after another.
-use Rattle.std.proofs.Common.{arith, ◌≡◌, ◌<◌, ◌+◌, inl, inr, ℕ, zero, suc, List, [], ◌∷◌, ◌++◌, length, map, min, take, drop, get_or, refl, sym, ap, ◌∙◌}
-use Rattle.std.proofs.{Common.{subst, append-nil, append_assoc}, Math.ListN.drop_of_length-le, Math.Seq.{drop-cons, drop-length}}
-use Rattle.std.proofs.lemmas.List.{map-append, take_min}
-use Rattle.std.specs.Prelude.{Result, Ok, Err, IfOk}
-use Rattle.svndiff0.specs.Full.{full_window}
-use Rattle.svndiff0.proofs.Documents.{below}
-use Rattle.wire_edits.specs.{declared.editing.EditorCommand.TheVariants.TextDeltaChunk, declared.editing.EditorCommand.EditorCommand}
-use Rattle.wire_deltas.specs.Deltas.{windows}
+use Rattle.std.proofs.Common.{arith, ◌≡◌, ◌<◌, ◌+◌, ℕ, suc, List, [], ◌∷◌, ◌++◌, length, map, drop, get_or, refl, sym, ap, ◌∙◌, subst, append-nil, append_assoc}
+use Rattle.std.proofs.{lemmas.List.map-append, Math.Seq.drop-cons}
+use Rattle.std.specs.Prelude.{Result, Ok, Err}
+use Rattle.wire_edits.specs.declared.editing.EditorCommand.{EditorCommand}
 use Rattle.replays.specs.Sending.{command_bytes}
 use Rattle.wire_replies.specs.{Replies.print, Sinks.{WritesPart, Writes}, declared.reply.Reply.Reply}
 use Rattle.wire_replies.specs.declared.reply.Reply.TheVariants as replies
@@ -73,50 +69,3 @@ pub next_left : {X : Type 0} (xs : List X) (i : ℕ) (x : X) → i < length xs �
 next_left xs i x within is =
     let next : suc i ≡ i + 1 = omega arith in
     drop-cons xs i x within ∙ ap (λ k. get_or xs i x ∷ drop k xs) next ∙ ap (λ y. y ∷ drop (i + 1) xs) (sym is)
-
-cut_min : (n : ℕ) (xs : List ℕ) → (take (min (length xs) n) xs ≡ take n xs) × (drop (min (length xs) n) xs ≡ drop n xs)
-cut_min n xs =
-    elim (below n (length xs)) [
-      | inl h ↦ let e : min (length xs) n ≡ n = omega arith in (ap (λ k. take k xs) e, ap (λ k. drop k xs) e)
-      | inr h ↦
-          let e : min (length xs) n ≡ length xs = omega arith in
-          let f : min (length xs) n ≡ min n (length xs) = omega arith in
-          (ap (λ k. take k xs) f ∙ take_min n xs, ap (λ k. drop k xs) e ∙ (drop-length xs ∙ sym (drop_of_length-le xs h)))
-    ]
-
--- one window more is written
-pub window_on : {S : Type 0} (writes : S → S → List ℕ → Type 0) (more : (s t u : S) (first second : List ℕ) → writes s t first → writes t u second → writes s u (first ++ second))
-    → (s t u : S) (token : List ℕ) (all : List EditorCommand) (rest front behind : List ℕ) (left count last n : ℕ) → left + count ≡ last → count < last
-    → Going writes s t all (map (TextDeltaChunk token) (windows left rest))
-    → n ≡ min (length rest) 65536 → front ≡ take n rest → behind ≡ drop n rest → writes t u (command_bytes (TextDeltaChunk token (full_window front) ∷ []))
-    → (x : ℕ) × (x + (count + 1) ≡ last) × Going writes s u all (map (TextDeltaChunk token) (windows x behind))
-window_on writes more s t u token all rest front behind zero count last n sum less so m f b now = absurd (omega (arith, sum, less))
-window_on writes more s t u token all rest front behind (suc left) count last n sum less so m f b now =
-    let cut = cut_min 65536 rest in
-    let f' : take 65536 rest ≡ front = sym (f ∙ (ap (λ k. take k rest) m ∙ cut.0)) in
-    let b' : drop 65536 rest ≡ behind = sym (b ∙ (ap (λ k. drop k rest) m ∙ cut.1)) in (
-      left,
-      omega (arith, sum),
-      going_on writes more s t u all (map (TextDeltaChunk token) (windows (suc left) rest)) (TextDeltaChunk token (full_window front) ∷ []) (map (TextDeltaChunk token) (windows left behind))
-          (ap (λ t. TextDeltaChunk token (full_window t) ∷ map (TextDeltaChunk token) (windows left (drop 65536 rest))) f' ∙ ap (λ t. TextDeltaChunk token (full_window front) ∷ map (TextDeltaChunk token) (windows left t)) b')
-          so now,
-    )
-
--- where one fails, a part of all is written
-pub window_failed : {S : Type 0} (writes : S → S → List ℕ → Type 0) (more : (s t u : S) (first second : List ℕ) → writes s t first → writes t u second → writes s u (first ++ second))
-    → (s t u : S) (token : List ℕ) (all : List EditorCommand) (rest front : List ℕ) (left count last n : ℕ) → left + count ≡ last → count < last
-    → Going writes s t all (map (TextDeltaChunk token) (windows left rest))
-    → n ≡ min (length rest) 65536 → front ≡ take n rest → WritesPart (writes t u) (command_bytes (TextDeltaChunk token (full_window front) ∷ []))
-    → WritesPart (writes s u) (command_bytes all)
-window_failed writes more s t u token all rest front zero count last n sum less so m f part = absurd (omega (arith, sum, less))
-window_failed writes more s t u token all rest front (suc left) count last n sum less so m f part =
-    let cut = cut_min 65536 rest in
-    let f' : take 65536 rest ≡ front = sym (f ∙ (ap (λ k. take k rest) m ∙ cut.0)) in
-    going_failed writes more s t u all (map (TextDeltaChunk token) (windows (suc left) rest)) (TextDeltaChunk token (full_window front) ∷ []) (map (TextDeltaChunk token) (windows left (drop 65536 rest)))
-    (ap (λ t. TextDeltaChunk token (full_window t) ∷ map (TextDeltaChunk token) (windows left (drop 65536 rest))) f')
-    so part
-
--- what is known of what was made
-pub if_made : {T E : Type 0} (r : Result T E) (P Q : T → Type 0) → ((x : T) → P x → Q x) → IfOk r P → IfOk r Q
-if_made (Ok x) P Q f p = f x p
-if_made (Err e) P Q f p = tt

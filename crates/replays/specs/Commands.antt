@@ -8,11 +8,12 @@ use Rattle.repo_api.specs.{Kinds.{node_properties_at, or_empty, text_at}, Proper
 use Rattle.traces.specs.declared.place.Place.{Place}
 use Rattle.file_histories.specs.Differing.{differing}
 use Rattle.wire_forms.specs.Forms.{is_name}
-use Rattle.wire_deltas.specs.Deltas.{delta_chunks}
+use Rattle.text_deltas.specs.Deltas.{delta_chunks}
+use Rattle.wire_deltas.specs.Texts.{text_commands, text_or_empty}
 use Rattle.wire_replies.specs.Replies.{bare_text}
 use Rattle.wire_edits.specs.{declared.editing.AddedEntry.AddedEntry, declared.editing.EditorCommand.EditorCommand, declared.editing.OpenedEntry.OpenedEntry}
 use Rattle.wire_edits.specs.declared.editing.EditorCommand.TheVariants.{DeleteEntry, AddDirectory, AddFile, OpenDirectory, OpenFile, ChangeDirectoryProperty}
-use Rattle.wire_edits.specs.declared.editing.EditorCommand.TheVariants.{ChangeFileProperty, ApplyTextDelta, TextDeltaChunk, TextDeltaEnd, CloseDirectory, CloseFile}
+use Rattle.wire_edits.specs.declared.editing.EditorCommand.TheVariants.{ChangeFileProperty, CloseDirectory, CloseFile}
 use Rattle.replays.specs.declared.ask.ReplayAsk.{ReplayAsk}
 
 abbrev pub is_empty : {A : Type 0} → List A → Bool
@@ -82,10 +83,6 @@ property_command false token change =
 -- ---- texts
 
 -- the text of what is at a place, of no bytes where there is none
-abbrev pub text_or_empty : Option (List ℕ) → List ℕ
-text_or_empty None = []
-text_or_empty (Some text) = text
-
 abbrev pub text_there : RepoState → Option Place → List ℕ
 text_there c None = []
 text_there c (Some at) = text_or_empty (text_at c at.revision at.path)
@@ -96,12 +93,7 @@ told_if_other listed before None = None
 told_if_other listed before (Some text) =
     if listed || not (is_name before text) then Some text else None
 
--- a delta, by the strings in which it is sent
-abbrev pub text_commands : List ℕ → List (List ℕ) → List EditorCommand
-text_commands token chunks =
-    ApplyTextDelta token None ∷ (map (TextDeltaChunk token) chunks ++ TextDeltaEnd token ∷ [])
-
--- a text that is told: by a delta, or by the header of one alone
+-- a text that is told: by a delta over the text before, or by the header of one alone
 abbrev pub file_text_commands : Bool → List ℕ → List ℕ → List ℕ → List EditorCommand
 file_text_commands true token before text = text_commands token (delta_chunks before text)
 file_text_commands false token before text = text_commands token (header ∷ [])

@@ -1,10 +1,8 @@
 //! What is told of an entry itself. Where one of these fails that write, a part of what it says was written.
-ghost use Rattle.std.specs.Prelude.{◌≡◌, ◌∷◌, [], ℕ, List, map, not, option_copied, false, true, IfOk, Some};
-ghost use Rattle.repo_api.specs.Kinds.{is_directory_kind, text_at};
-ghost use Rattle.wire_forms.specs.Forms.{is_name};
+ghost use Rattle.std.specs.Prelude.{◌≡◌, ◌∷◌, [], map, not, option_copied, false, true, IfOk, Some};
+ghost use Rattle.repo_api.specs.Kinds.{is_directory_kind};
 ghost use Rattle.file_histories.specs.Differing.{differing};
-ghost use Rattle.replays.specs.Commands.{changes_sent, close_command, file_text_commands, is_empty, own_commands, properties_there, property_command};
-ghost use Rattle.replays.specs.Commands.{text_there, text_told_commands, token_of, told_if_other};
+ghost use Rattle.replays.specs.Commands.{changes_sent, close_command, is_empty, own_commands, properties_there, property_command, token_of};
 ghost use Rattle.replays.specs.{Places.place_in, Sending.Sends, Shaping.base_of};
 ghost use Rattle.wire_replies.specs.Made.{Makes};
 
@@ -13,12 +11,11 @@ use crate::naming::token;
 use crate::places::Shape;
 use crate::replayed::Replayed;
 use crate::saying::say_command;
-use crate::texts::{say_header, say_loaded};
+use crate::texts::{say_text_told, text_told};
 use byte_string::ByteString;
 use file_histories::{DifferingProperties, differing};
 use repo_api::{FileText, Properties, PropertyValue, Repository};
 use sequence::Sequence;
-use small_rules::is_same_text;
 use std::alloc::{AllocError, Global};
 use svnpath::Path;
 use traces::Place;
@@ -99,39 +96,6 @@ fn changes_of<R: Repository>(
     changes_sent(alloc, replay.ask.sends_deltas, changes)
 }
 
-/// Says whether the text at a place, if there is one, is this text.
-fn is_text_there<R: Repository>(view: &R, place: Option<&Place>, text: &FileText) -> bool
-    ensures { result
-        ≡ is_name (text_there (R.content view.now) (option_copied place.entry)) text.now }
-{
-    let Some(place) = place else {
-        return text.as_slice().is_empty();
-    };
-    match view.text(place.revision, &place.path) {
-        Some(old) => is_same_text(old, text),
-        None => text.as_slice().is_empty(),
-    }
-}
-
-/// Gives the text that a file is told, if it is told one: where the list says so, or it is another than the one that the
-/// client has.
-fn text_told<'a, R: Repository>(
-    replay: &'a Replayed<R>,
-    path: &Path,
-    shape: &Shape,
-) -> Option<&'a FileText>
-    ensures { option_copied result ≡ told_if_other shape.now.has_text
-        (text_there (R.content replay.now.view.now) (base_of shape.now))
-        (text_at (R.content replay.now.view.now) replay.now.revision path.now) }
-{
-    let text = replay.view.text(replay.revision, path)?;
-    if shape.has_text || !is_text_there(replay.view, shape.base(), text) {
-        Some(text)
-    } else {
-        None
-    }
-}
-
 /// Says whether something is told of an entry itself.
 pub(crate) fn has_own_news<R: Repository>(
     alloc: Global,
@@ -144,7 +108,7 @@ pub(crate) fn has_own_news<R: Repository>(
         (is_directory_kind shape.now.kind) shape.now.has_text (base_of shape.now)
         (place_in replay.now.revision path.now)))) }
 {
-    if text_told(replay, path, shape).is_some() {
+    if text_told(replay, path, shape).text.is_some() {
         return Ok(true);
     }
     let changes = changes_of(alloc, replay, path, shape)?;
@@ -198,41 +162,6 @@ fn say_changes<S: ReplySink>(
     Ok(())
 }
 
-/// Writes a text that a file is told, or of it no more than that it is another.
-fn say_text<S: ReplySink>(
-    alloc: Global,
-    ask: &ReplayAsk,
-    token: &ByteString,
-    text: &FileText,
-    out: &mut S,
-) -> Result<(), AllocError>
-    ensures { (before : List ℕ) → Sends result (S.writes out.old out.new)
-        (file_text_commands ask.now.sends_deltas token.now before text.now) }
-{
-    if ask.sends_deltas {
-        say_loaded(alloc, token, text, out)
-    } else {
-        say_header(alloc, token, out)
-    }
-}
-
-/// Writes the text of a file, if it is told one.
-fn say_text_told<S: ReplySink>(
-    alloc: Global,
-    ask: &ReplayAsk,
-    token: &ByteString,
-    text: Option<&FileText>,
-    out: &mut S,
-) -> Result<(), AllocError>
-    ensures { (before : List ℕ) → Sends result (S.writes out.old out.new)
-        (text_told_commands ask.now.sends_deltas token.now before (option_copied text.entry)) }
-{
-    match text {
-        None => Ok(()),
-        Some(text) => say_text(alloc, ask, token, text, out),
-    }
-}
-
 /// Writes what is told of an entry itself.
 pub(crate) fn say_own<R: Repository, S: ReplySink>(
     alloc: Global,
@@ -250,13 +179,8 @@ pub(crate) fn say_own<R: Repository, S: ReplySink>(
     let token = token(alloc, is_directory, path.len())?;
     let changes = changes_of(alloc, replay, path, shape)?;
     say_changes(is_directory, &token, changes.as_slice(), out)?;
-    say_text_told(
-        alloc,
-        replay.ask,
-        &token,
-        text_told(replay, path, shape),
-        out,
-    )
+    let told = text_told(replay, path, shape);
+    say_text_told(alloc, replay.ask, &token, told, out)
 }
 
 /// Makes the command that closes a file, with the digits of its text.

@@ -12,4 +12,6 @@ pub fn edits_lead_to_their_revision()
         → r < length c.revisions → ask.sends_deltas ≡ true
         → ((n : ℕ) (q : PathValue) (text : List ℕ) → text_at c n q ≡ Some text → length text ≤ limit)
         → LeadsToRevision c ask r (edit_commands c ask r) }
-{}
+{
+    text_deltas::deltas_give_the_text();
+}

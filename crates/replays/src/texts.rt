@@ -1,121 +1,108 @@
-//! Texts, sent whole or not at all. Where one of these fails, a part of what it says was written.
-ghost use Rattle.std.specs.{Prelude.{◌<◌, ◌^◌, ◌∷◌, [], ℕ, List, None, map, length}, Int.div_ceil};
-ghost use Rattle.svndiff0.specs.{Document.header, Full.full_window};
-ghost use Rattle.wire_deltas.specs.Deltas.{delta_chunks, windows};
-ghost use Rattle.replays.specs.{Commands.text_commands, Sending.Sends};
-ghost use Rattle.wire_replies.specs.Made.{Makes};
+//! What a file is told of its text. Where one of these fails that write, a part of what it says was written.
+ghost use Rattle.std.specs.Prelude.{◌≡◌, option_copied};
+ghost use Rattle.repo_api.specs.Kinds.{text_at};
+ghost use Rattle.wire_forms.specs.Forms.{is_name};
+ghost use Rattle.wire_deltas.specs.Texts.{text_or_empty};
+ghost use Rattle.replays.specs.{Commands.{text_there, text_told_commands, told_if_other}, Sending.Sends, Shaping.base_of};
 
-use crate::saying::say_command;
+use crate::ask::ReplayAsk;
+use crate::places::Shape;
+use crate::replayed::Replayed;
 use byte_string::ByteString;
-use repo_api::FileText;
+use repo_api::{FileText, Repository};
+use small_rules::is_same_text;
 use std::alloc::{AllocError, Global};
-use std::mem::drop;
-use svndiff0::{HEADER, put_window};
-use wire_edits::EditorCommand;
+use svnpath::Path;
+use traces::Place;
+use wire_deltas::{say_header, say_text};
 use wire_replies::ReplySink;
 
-/// The longest part of a text that a window brings, in bytes.
-const WINDOW: usize = 65_536;
-
-/// Makes the command with the next bytes of a delta.
-fn chunk(token: &ByteString, bytes: Vec<u8>) -> Result<EditorCommand, AllocError>
-    ensures { Makes result (EditorCommand.TextDeltaChunk token.now bytes.items) }
-{
-    let bytes = ByteString::new(bytes);
-    Ok(EditorCommand::TextDeltaChunk(token.clone()?, bytes))
+/// What a file is told of its text.
+#[derive(Clone, Copy)]
+pub(crate) struct TextTold<'a> {
+    /// The text that the client has of it, if there is one.
+    pub(crate) before: Option<&'a FileText>,
+    /// The text, if the file is told it.
+    pub(crate) text: Option<&'a FileText>,
 }
 
-/// Makes the command with the window of a part of a text.
-fn window(alloc: Global, token: &ByteString, part: &[u8]) -> Result<EditorCommand, AllocError>
-    requires { length part.now < 2 ^ 21 }
-    ensures { Makes result (EditorCommand.TextDeltaChunk token.now (full_window part.now)) }
+/// Finds the text of what is at a place, if there is one.
+fn text_there<'a, R: Repository>(view: &'a R, place: Option<&Place>) -> Option<&'a FileText>
+    ensures { text_or_empty (option_copied result)
+        ≡ text_there (R.content view.now) (option_copied place.entry) }
 {
-    let mut bytes = Vec::new(alloc);
-    put_window(&mut bytes, part)?;
-    chunk(token, bytes)
+    let place = place?;
+    view.text(place.revision, &place.path)
 }
 
-/// Makes the command that begins a delta.
-fn beginning(token: &ByteString) -> Result<EditorCommand, AllocError>
-    ensures { Makes result (EditorCommand.ApplyTextDelta token.now None) }
+/// Says whether a text is the one before. Where there is none before, it is if it has no bytes.
+fn is_text_before(before: Option<&FileText>, text: &FileText) -> bool
+    ensures { result ≡ is_name (text_or_empty (option_copied before.entry)) text.now }
 {
-    Ok(EditorCommand::ApplyTextDelta(token.clone()?, None))
-}
-
-/// Makes the command that ends a delta.
-fn end(token: &ByteString) -> Result<EditorCommand, AllocError>
-    ensures { Makes result (EditorCommand.TextDeltaEnd token.now) }
-{
-    Ok(EditorCommand::TextDeltaEnd(token.clone()?))
-}
-
-/// Makes the command with the header of a delta.
-fn header(alloc: Global, token: &ByteString) -> Result<EditorCommand, AllocError>
-    ensures { Makes result (EditorCommand.TextDeltaChunk token.now header) }
-{
-    chunk(token, Vec::from_slice(alloc, &HEADER)?)
-}
-
-/// Writes the windows of a text, each as it is made.
-fn say_windows<S: ReplySink>(
-    alloc: Global,
-    token: &ByteString,
-    text: &[u8],
-    out: &mut S,
-) -> Result<(), AllocError>
-    ensures { Sends result (S.writes out.old out.new) (map (EditorCommand.TextDeltaChunk token.now)
-        (windows (div_ceil (length text.now) 65536) text.now)) }
-{
-    let mut rest = text;
-    for _ in 0..text.len().div_ceil(WINDOW) {
-        let (front, behind) = rest.split_at(rest.len().min(WINDOW));
-        say_command(window(alloc, token, front), out)?;
-        rest = behind;
+    match before {
+        Some(before) => is_same_text(before, text),
+        None => text.as_slice().is_empty(),
     }
-    Ok(())
 }
 
-/// Writes a text whose bytes are in memory.
-fn say_text<S: ReplySink>(
-    alloc: Global,
-    token: &ByteString,
-    text: &[u8],
-    out: &mut S,
-) -> Result<(), AllocError>
-    ensures { (before : List ℕ) → Sends result (S.writes out.old out.new)
-        (text_commands token.now (delta_chunks before text.now)) }
+/// Gives a text, if a file is told it: where the list says so, or it is another than the one before.
+fn told_if_other<'a>(
+    is_listed: bool,
+    before: Option<&FileText>,
+    text: Option<&'a FileText>,
+) -> Option<&'a FileText>
+    ensures { option_copied result ≡ told_if_other is_listed
+        (text_or_empty (option_copied before.entry)) (option_copied text.entry) }
 {
-    say_command(beginning(token), out)?;
-    say_command(header(alloc, token), out)?;
-    say_windows(alloc, token, text, out)?;
-    say_command(end(token), out)
+    let text = text?;
+    if is_listed || !is_text_before(before, text) {
+        Some(text)
+    } else {
+        None
+    }
 }
 
-/// Writes a text, which is read whole before.
-pub(crate) fn say_loaded<S: ReplySink>(
-    alloc: Global,
-    token: &ByteString,
-    text: &FileText,
-    out: &mut S,
-) -> Result<(), AllocError>
-    ensures { (before : List ℕ) → Sends result (S.writes out.old out.new)
-        (text_commands token.now (delta_chunks before text.now)) }
+/// Gives what a file is told of its text: the text, where the list says so, or it is another than the one that the client
+/// has.
+pub(crate) fn text_told<'a, R: Repository>(
+    replay: &'a Replayed<R>,
+    path: &Path,
+    shape: &Shape,
+) -> TextTold<'a>
+    ensures before { text_or_empty (option_copied result.before)
+        ≡ text_there (R.content replay.now.view.now) (base_of shape.now) }
+    ensures text { option_copied result.text ≡ told_if_other shape.now.has_text
+        (text_there (R.content replay.now.view.now) (base_of shape.now))
+        (text_at (R.content replay.now.view.now) replay.now.revision path.now) }
 {
-    let loaded = out.load(alloc, text)?;
-    let said = say_text(alloc, token, loaded.as_slice(), out);
-    drop(loaded);
-    said
+    let before = text_there(replay.view, shape.base());
+    let text = replay.view.text(replay.revision, path);
+    TextTold {
+        before,
+        text: told_if_other(shape.has_text, before, text),
+    }
 }
 
-/// Writes that a text is another, and nothing of it: the header of a delta alone.
-pub(crate) fn say_header<S: ReplySink>(
+/// Writes the text of a file, if it is told one, over the one that the client has; or of it no more than that it is another.
+pub(crate) fn say_text_told<S: ReplySink>(
     alloc: Global,
+    ask: &ReplayAsk,
     token: &ByteString,
+    told: TextTold<'_>,
     out: &mut S,
 ) -> Result<(), AllocError>
-    ensures { Sends result (S.writes out.old out.new) (text_commands token.now (header ∷ [])) }
+    ensures { Sends result (S.writes out.old out.new)
+        (text_told_commands ask.now.sends_deltas token.now
+        (text_or_empty (option_copied told.entry.before)) (option_copied told.entry.text)) }
 {
-    say_command(beginning(token), out)?;
-    say_command(header(alloc, token), out)?;
-    say_command(end(token), out)
+    match told.text {
+        None => Ok(()),
+        Some(text) => {
+            if ask.sends_deltas {
+                say_text(alloc, token, told.before, text, out)
+            } else {
+                say_header(alloc, token, out)
+            }
+        }
+    }
 }

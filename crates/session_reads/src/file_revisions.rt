@@ -1,10 +1,11 @@
 //! The revisions of a file, each as it differs from the one sent before. Where one of these fails, a part of what it says was
 //! written.
-ghost use Rattle.std.specs.Prelude.{◌≡◌, ◌++◌, ◌∷◌, ℕ, List, [], map, option_copied, IfOk, Ok, Some, None};
+ghost use Rattle.std.specs.Prelude.{◌≡◌, ◌++◌, ◌∷◌, List, [], map, option_copied, IfOk, Ok, Some, None};
 ghost use Rattle.svnpath.specs.Texts.{joined};
 ghost use Rattle.repo_api.specs.{Kinds.properties_at, Properties.is_same_value};
 ghost use Rattle.traces.specs.declared.place.Place.{Place};
-ghost use Rattle.wire_deltas.specs.Deltas.{delta_chunks};
+ghost use Rattle.text_deltas.specs.Deltas.{delta_chunks};
+ghost use Rattle.wire_deltas.specs.Texts.{text_or_empty};
 ghost use Rattle.wire_replies.specs.{Made.Makes, Sinks.Says, declared.reply.Reply.Reply};
 ghost use Rattle.machine.specs.Histories.{delta_told, ended, file_revision_head, file_revision_told, file_revisions_refusal, file_revisions_replies, has_text_of};
 ghost use Rattle.machine.specs.Histories.{properties_before, text_before, told_in_turn};
@@ -21,6 +22,7 @@ use history::Place;
 use machine::Client;
 use refusals::{Refusal, path_refusal};
 use repo_api::{FileText, Properties, Repository};
+use small_rules::is_same_text;
 use std::alloc::{AllocError, Global};
 use std::mem::drop;
 use svnpath::{Path, PathFault};
@@ -142,7 +144,7 @@ fn are_same_texts(old: Option<&FileText>, new: Option<&FileText>) -> bool
     match (old, new) {
         (None, None) => true,
         (None, Some(_)) | (Some(_), None) => false,
-        (Some(old), Some(new)) => old.as_slice() == new.as_slice(),
+        (Some(old), Some(new)) => is_same_text(old, new),
     }
 }
 
@@ -160,20 +162,32 @@ fn has_text_of<R: Repository>(view: &R, before: Option<&Place>, place: &Place) -
     }
 }
 
-/// Writes the text at a place as a delta, whatever the text before is.
+/// Finds the text of the file that was sent before, if one was.
+fn text_before<'a, R: Repository>(view: &'a R, before: Option<&Place>) -> Option<&'a FileText>
+    ensures { text_or_empty (option_copied result)
+        ≡ text_before (R.content view.now) (option_copied before.entry) }
+{
+    let before = before?;
+    view.text(before.revision, &before.path)
+}
+
+/// Writes the text at a place as a delta over the text that was sent before.
 fn say_text<R: Repository, S: ReplySink>(
     alloc: Global,
     view: &R,
+    before: Option<&Place>,
     place: &Place,
     out: &mut S,
 ) -> Result<(), AllocError>
-    ensures { (before : List ℕ) → Says result (S.writes out.old out.new)
-        (map Reply.Chunk
-        (delta_chunks before (text_before (R.content view.now) (Some place.now)))) }
+    ensures { let c = R.content view.now in
+        Says result (S.writes out.old out.new) (map Reply.Chunk
+        (delta_chunks (text_before c (option_copied before.entry))
+        (text_before c (Some place.now)))) }
 {
+    let before = text_before(view, before);
     match view.text(place.revision, &place.path) {
-        Some(text) => say_delta(alloc, text, out),
-        None => say_delta(alloc, &FileText::empty(), out),
+        Some(text) => say_delta(alloc, before, text, out),
+        None => say_delta(alloc, before, &FileText::empty(), out),
     }
 }
 
@@ -193,7 +207,7 @@ fn say_other_text<R: Repository, S: ReplySink>(
     if has_text_of(view, before, place) {
         Ok(())
     } else {
-        say_text(alloc, view, place, out)
+        say_text(alloc, view, before, place, out)
     }
 }
 

@@ -1,2 +1,1 @@
 pub mod Written
-pub mod Given

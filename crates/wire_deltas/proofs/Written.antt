@@ -1,87 +1,55 @@
--- Replies that are written one after another, and the windows of a text among them.
-use Rattle.std.proofs.Common.{arith, ◌≡◌, ◌<◌, ◌+◌, inl, inr, ℕ, zero, suc, List, [], ◌∷◌, ◌++◌, length, map, min, take, drop, refl, sym, ap, ◌∙◌}
-use Rattle.std.proofs.{Common.{subst, append-nil, append_assoc}, Math.ListN.drop_of_length-le, Math.Seq.drop-length}
-use Rattle.std.proofs.lemmas.List.{take_min}
-use Rattle.svndiff0.specs.Full.{full_window}
-use Rattle.svndiff0.proofs.Documents.{below}
-use Rattle.wire_deltas.specs.Deltas.{windows}
-use Rattle.wire_replies.specs.{Replies.print, Sinks.WritesPart, declared.reply.Reply.Reply}
-use Rattle.wire_replies.specs.declared.reply.Reply.TheVariants.{Chunk}
-use Rattle.wire_replies.proofs.Parts.{both_written, part_all, part_behind, part_first}
+-- Replies that are written one after another, and the windows of a delta among them.
+use Rattle.std.proofs.Common.{arith, ◌≡◌, ◌≤◌, ◌+◌, ◌-◌, ℕ, zero, suc, List, [], ◌∷◌, ◌++◌, map, sym, ap, subst, ◌∙◌, append-nil, append_assoc}
+use Rattle.std.proofs.{lemmas.List.map-append, lemmas.List.FromFn.map-range_with_len_more}
+use Rattle.std.specs.List.{range_with_len}
+use Rattle.text_deltas.specs.Deltas.{nth_window}
+use Rattle.wire_edits.specs.declared.editing.EditorCommand.TheVariants.{TextDeltaChunk}
+use Rattle.wire_replies.specs.{Replies.print, Sinks.WritesPart, declared.reply.Reply.Reply, declared.reply.Reply.TheVariants.{Chunk, Edit}}
+use Rattle.wire_replies.proofs.Parts.{both_written, part_behind, part_first}
 
-cut_min : (n : ℕ) (xs : List ℕ) → (take (min (length xs) n) xs ≡ take n xs) × (drop (min (length xs) n) xs ≡ drop n xs)
-cut_min n xs =
-    elim (below n (length xs)) [
-      | inl h ↦ let e : min (length xs) n ≡ n = omega arith in (ap (λ k. take k xs) e, ap (λ k. drop k xs) e)
-      | inr h ↦
-          let e : min (length xs) n ≡ length xs = omega arith in
-          let f : min (length xs) n ≡ min n (length xs) = omega arith in
-          (ap (λ k. take k xs) f ∙ take_min n xs, ap (λ k. drop k xs) e ∙ (drop-length xs ∙ sym (drop_of_length-le xs h)))
-    ]
+-- replies that are made one by one
+module _ (told : ℕ → List Reply) (next : ℕ → Reply) (grows : (n : ℕ) → told (n + 1) ≡ told n ++ next n ∷ []) where
+  -- so many, from one on
+  abbrev behind : ℕ → ℕ → List Reply
+  behind n zero = []
+  behind n (suc k) = next n ∷ behind (n + 1) k
 
-module _ {S : Type 0} (writes : S → S → List ℕ → Type 0) where
-  -- some replies are written, and these are left of all
-  pub record Going (s t : S) (all left : List Reply) : Type 0 where
-    pub before : List Reply
-    pub wrote : writes s t (print before)
-    pub whole : all ≡ before ++ left
+  split : (n k : ℕ) → told (n + k) ≡ told n ++ behind n k
+  split n zero = let e : n + 0 ≡ n = omega arith in ap told e ∙ sym (append-nil (told n))
+  split n (suc k) =
+      let e : n + suc k ≡ (n + 1) + k = omega arith in
+      ap told e ∙ split (n + 1) k ∙ ap (λ rs. rs ++ behind (n + 1) k) (grows n) ∙ append_assoc (told n) (next n ∷ []) (behind (n + 1) k)
 
-  -- what is written so far is a part
-  pub going_part : (s t : S) (all left : List Reply) → Going s t all left → WritesPart (writes s t) (print all)
-  going_part s t all left so =
-      subst (λ (xs : List Reply). WritesPart (writes s t) (print xs)) (sym so.whole)
-      (part_first (writes s t) so.before left (part_all (writes s t) (print so.before) so.wrote))
-
-  -- where none is left, all is written
-  pub all_gone : (s t : S) (all left : List Reply) → left ≡ [] → Going s t all left → writes s t (print all)
-  all_gone s t all left none so =
-      subst (λ (xs : List Reply). writes s t (print xs)) (sym (so.whole ∙ ap (λ xs. so.before ++ xs) none ∙ append-nil so.before)) so.wrote
-
-  -- nothing is written yet
-  pub going_from : ((s : S) → writes s s []) → (s : S) (all : List Reply) → Going s s all all
-  going_from nothing s all = record { before = []; wrote = nothing s; whole = refl }
-
-  module _ (more : (s t u : S) (first second : List ℕ) → writes s t first → writes t u second → writes s u (first ++ second)) where
-    -- some more are written
-    pub going_on : (s t u : S) (all left xs rest : List Reply) → left ≡ xs ++ rest → Going s t all left → writes t u (print xs) → Going s u all rest
-    going_on s t u all left xs rest is so now = record {
-      before = so.before ++ xs;
-      wrote = both_written writes more s t u so.before xs so.wrote now;
-      whole = so.whole ∙ ap (λ ys. so.before ++ ys) is ∙ sym (append_assoc so.before xs rest);
-    }
-
-    -- and where they fail, a part of all is
-    pub going_failed : (s t u : S) (all left xs rest : List Reply) → left ≡ xs ++ rest → Going s t all left → WritesPart (writes t u) (print xs) → WritesPart (writes s u) (print all)
-    going_failed s t u all left xs rest is so part =
-        subst (λ (ys : List Reply). WritesPart (writes s u) (print ys)) (sym (so.whole ∙ ap (λ ys. so.before ++ ys) is))
-        (part_behind writes more s t u so.before (xs ++ rest) so.wrote (part_first (writes t u) xs rest part))
-
-    -- one window more is written
-    pub window_on : (s t u : S) (all : List Reply) (rest front behind : List ℕ) (left count last n : ℕ) → left + count ≡ last → count < last
-        → Going s t all (map Chunk (windows left rest))
-        → n ≡ min (length rest) 65536 → front ≡ take n rest → behind ≡ drop n rest → writes t u (print (Chunk (full_window front) ∷ []))
-        → (x : ℕ) × (x + (count + 1) ≡ last) × Going s u all (map Chunk (windows x behind))
-    window_on s t u all rest front behind zero count last n sum less so m f b now = absurd (omega (arith, sum, less))
-    window_on s t u all rest front behind (suc left) count last n sum less so m f b now =
-        let cut = cut_min 65536 rest in
-        let f' : take 65536 rest ≡ front = sym (f ∙ (ap (λ k. take k rest) m ∙ cut.0)) in
-        let b' : drop 65536 rest ≡ behind = sym (b ∙ (ap (λ k. drop k rest) m ∙ cut.1)) in (
-          left,
-          omega (arith, sum),
-          going_on s t u all (map Chunk (windows (suc left) rest)) (Chunk (full_window front) ∷ []) (map Chunk (windows left behind))
-              (ap (λ t. Chunk (full_window t) ∷ map Chunk (windows left (drop 65536 rest))) f' ∙ ap (λ t. Chunk (full_window front) ∷ map Chunk (windows left t)) b')
-              so now,
-        )
+  module _ {S : Type 0} (writes : S → S → List ℕ → Type 0) (more : (s t u : S) (first second : List ℕ) → writes s t first → writes t u second → writes s u (first ++ second)) where
+    -- one more is written
+    pub next_on : (s t u : S) (n : ℕ) → writes s t (print (told n)) → writes t u (print (next n ∷ [])) → writes s u (print (told (n + 1)))
+    next_on s t u n before now =
+        subst (λ (rs : List Reply). writes s u (print rs)) (sym (grows n)) (both_written writes more s t u (told n) (next n ∷ []) before now)
 
     -- where one fails, a part of all is written
-    pub window_failed : (s t u : S) (all : List Reply) (rest front : List ℕ) (left count last n : ℕ) → left + count ≡ last → count < last
-        → Going s t all (map Chunk (windows left rest))
-        → n ≡ min (length rest) 65536 → front ≡ take n rest → WritesPart (writes t u) (print (Chunk (full_window front) ∷ []))
-        → WritesPart (writes s u) (print all)
-    window_failed s t u all rest front zero count last n sum less so m f part = absurd (omega (arith, sum, less))
-    window_failed s t u all rest front (suc left) count last n sum less so m f part =
-        let cut = cut_min 65536 rest in
-        let f' : take 65536 rest ≡ front = sym (f ∙ (ap (λ k. take k rest) m ∙ cut.0)) in
-        going_failed s t u all (map Chunk (windows (suc left) rest)) (Chunk (full_window front) ∷ []) (map Chunk (windows left (drop 65536 rest)))
-        (ap (λ t. Chunk (full_window t) ∷ map Chunk (windows left (drop 65536 rest))) f')
-        so part
+    pub next_failed : (s t u : S) (n count : ℕ) → n + 1 ≤ count → writes s t (print (told n)) → WritesPart (writes t u) (print (next n ∷ []))
+        → WritesPart (writes s u) (print (told count))
+    next_failed s t u n count within before part =
+        let e : count ≡ n + suc (count - (n + 1)) = omega (arith, within) in
+        let left : List Reply = behind (n + 1) (count - (n + 1)) in
+        subst (λ (rs : List Reply). WritesPart (writes s u) (print rs)) (sym (ap told e ∙ split n (suc (count - (n + 1)))))
+        (part_behind writes more s t u (told n) (next n ∷ left) before (part_first (writes t u) (next n ∷ []) left part))
+
+-- the strings of the first windows
+abbrev pub strings : List ℕ → List ℕ → ℕ → List Reply
+strings before text n = map Chunk (map (nth_window before text) (range_with_len 0 n))
+
+pub strings_grow : (before text : List ℕ) (n : ℕ) → strings before text (n + 1) ≡ strings before text n ++ Chunk (nth_window before text n) ∷ []
+strings_grow before text n =
+    ap (map Chunk) (map-range_with_len_more (nth_window before text) 0 n n (omega arith))
+    ∙ map-append Chunk (map (nth_window before text) (range_with_len 0 n)) (nth_window before text n ∷ [])
+
+-- the commands of the first windows
+abbrev pub chunks : List ℕ → List ℕ → List ℕ → ℕ → List Reply
+chunks token before text n = map Edit (map (TextDeltaChunk token) (map (nth_window before text) (range_with_len 0 n)))
+
+pub chunks_grow : (token before text : List ℕ) (n : ℕ) → chunks token before text (n + 1) ≡ chunks token before text n ++ Edit (TextDeltaChunk token (nth_window before text n)) ∷ []
+chunks_grow token before text n =
+    ap (λ ws. map Edit (map (TextDeltaChunk token) ws)) (map-range_with_len_more (nth_window before text) 0 n n (omega arith))
+    ∙ ap (map Edit) (map-append (TextDeltaChunk token) (map (nth_window before text) (range_with_len 0 n)) (nth_window before text n ∷ []))
+    ∙ map-append Edit (map (TextDeltaChunk token) (map (nth_window before text) (range_with_len 0 n))) (TextDeltaChunk token (nth_window before text n) ∷ [])

@@ -1,1 +1,1 @@
-pub mod Deltas
+pub mod Texts

@@ -1,8 +1,8 @@
 //! Deltas of texts, as they are sent string by string.
 #![tactic(auto)]
 
-mod laws;
-mod texts;
+mod commands;
+mod replies;
 
-pub use laws::deltas_give_the_text;
-pub use texts::{say_delta, say_delta_end};
+pub use commands::{say_header, say_text};
+pub use replies::{say_delta, say_delta_end};

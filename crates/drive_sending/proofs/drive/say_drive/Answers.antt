@@ -13,7 +13,7 @@ returns g c =
     drive_said c.say_planned.result (g.S.ReplySink.writes c.args.out.now c.say_planned.new.out) (g.R.Repository.content c.args.view.now)
     (whole c.args.report.now c.args.root)
     (drive_of (g.R.Repository.content c.args.view.now) (whole c.args.report.now c.args.root) v.0)
-    (drive_may_be_sent (g.R.Repository.content c.args.view.now) c.args.report.now c.args.root v.0 c.requires.trees c.are_named.ensures.0
+    (drive_may_be_sent (g.R.Repository.content c.args.view.now) c.args.report.now c.args.root c.deltas_give_the_text.ensures v.0 c.requires.trees c.are_named.ensures.0
     c.are_named.ensures.1
     c.requires.finished (c.in_ok-visitor.ensures.plan v.0 v.1))
     v.2

@@ -18,7 +18,7 @@ returns-in_err-say_made g c =
     let p = err_from_is_err_and c.from_residual-in_err-say_made.result c.from_residual-in_err-say_made.ensures.1 in
     rw (p.1) (first_part _ (add_command (kind_if c.args.entrance.is_directory) (added_entry c.args.entrance.around c.args.place.now.path
     (kind_if c.args.entrance.is_directory)) ∷ []) (news_commands c.args.trees.now.report.now.ask.purpose (kind_if c.args.entrance.is_directory)
-    (token_of (kind_if c.args.entrance.is_directory) (c.args.entrance.around + 1))
+    (token_of (kind_if c.args.entrance.is_directory) (c.args.entrance.around + 1)) []
     (news_told (g.R.Repository.content c.args.trees.now.view.now) (whole c.args.trees.now.report.now c.args.trees.now.root) c.args.place.now.path true))
     (c.in_err-say_made.ensures _ c.add_command.ensures))
 
@@ -27,9 +27,9 @@ returns g c =
     sent_behind _ g.met.S.ReplySink.more c.say_news.result _ _ _ (add_command (kind_if c.args.entrance.is_directory)
     (added_entry c.args.entrance.around c.args.place.now.path (kind_if c.args.entrance.is_directory)) ∷ [])
     (news_commands c.args.trees.now.report.now.ask.purpose (kind_if c.args.entrance.is_directory)
-    (token_of (kind_if c.args.entrance.is_directory) (c.args.entrance.around + 1))
+    (token_of (kind_if c.args.entrance.is_directory) (c.args.entrance.around + 1)) []
     (news_told (g.R.Repository.content c.args.trees.now.view.now) (whole c.args.trees.now.report.now c.args.trees.now.root) c.args.place.now.path true))
     (c.in_ok-say_made.ensures _ c.add_command.ensures)
     (subst (λ n. Writes c.say_news.result (g.S.ReplySink.writes c.say_made.new.out c.say_news.new.out)
     (command_bytes (news_commands c.args.trees.now.report.now.ask.purpose (kind_if c.args.entrance.is_directory)
-    (token_of (kind_if c.args.entrance.is_directory) (c.args.entrance.around + 1)) n))) c.in_ok-news.ensures c.say_news.ensures)
+    (token_of (kind_if c.args.entrance.is_directory) (c.args.entrance.around + 1)) [] n))) c.in_ok-news.ensures c.say_news.ensures)

@@ -16,4 +16,4 @@ returns-else-has_text_of g c =
     let content = g.R.Repository.content c.args.view.now in
     subst (λ (b : Bool). Says c.say_text.result (g.S.ReplySink.writes c.args.out.now c.say_text.new.out)
     (delta_told b (text_before content (option_copied c.args.before)) (text_before content (Some c.args.place.now))))
-    (sym c.if-has_text_of.false ∙ c.has_text_of.ensures) (c.say_text.ensures (text_before content (option_copied c.args.before)))
+    (sym c.if-has_text_of.false ∙ c.has_text_of.ensures) c.say_text.ensures

@@ -8,7 +8,7 @@ use Rattle.filed_writing.proofs.revision.Revision.write_nodes.Goals as goal
 pub loop-place-init : goal.loop-place-init
 loop-place-init c = record {
   front = [];
-  ids_are = c.new-written.ensures.items;
+  ids_are = c.in_ok-written.ensures.items;
   placed_are = c.in_ok-placed.ensures.items;
   bytes_are = c.new-out.ensures.items;
   rest = refl;

@@ -1,6 +1,6 @@
-use Rattle.std.proofs.Common.{◌≡◌, suc, List, length, take, Option, sym, ap, refl, arith, ◌∙◌}
-use Rattle.std.proofs.lemmas.Option.{slice_get_read}
-use Rattle.svnpath.specs.Paths.{PathValue}
+use Rattle.std.proofs.Common.{◌≡◌, ◌<◌, suc, [], List, length, take, Option, None, get_or, sym, ap, arith, ◌∙◌}
+use Rattle.std.proofs.{lemmas.List.get_or_default, lemmas.Option.slice_get-get_or}
+use Rattle.svnpath.specs.Paths.{Component, PathValue}
 use Rattle.repo_api.specs.Histories.{Changed}
 use Rattle.revision_data.specs.Found.{found}
 use Rattle.noderevs.specs.{Held.node_at, Nodes.kid_at, declared.node_rev.NodeId.NodeId}
@@ -14,27 +14,26 @@ returns c =
     let r = c.args.revision in
     let nodes = r.nodes.now in
     let changes : List Changed = r.changes.now in
-    let path : PathValue = c.args.self.now.path.now in
-    let ids : List (Option NodeId) = c.args.self.now.ids.items in
+    let path : PathValue = c.args.self.now.way.path.now in
+    let ids : List (Option NodeId) = c.args.self.now.way.ids.items in
     let kept = c.match-checked_sub.kept in
-    let depth : c.len-depth.result ≡ length ids = omega (arith, c.len-depth.ensures, c.args.self.now.ids.ok.0) in
+    let depth : c.len-depth.result ≡ length ids = omega (arith, c.len-depth.ensures, c.args.self.now.way.ids.ok.0) in
     let put : c.put_by.result ≡ put_by nodes (found changes (take (length ids) path)) kept =
     c.put_by.ensures ∙ ap (λ o. put_by nodes o kept) (c.change_near.ensures c.requires.sorted)
     ∙ ap (λ d. put_by nodes (found changes (take d path)) kept) depth in
     elim c.match-checked_sub.branch [
       | in-Some w ↦
           let above = w.in-Some.above in
-          let name = w.index-self-above.result in
-          let id = w.index.result.now in
+          let name : Component = get_or path above [] in
           let one = w.in-Some.ensures in
           let more : length ids ≡ suc above = omega (arith, one.0, one.1, depth) in
-          let known : id ≡ made_at r (take above path) =
-          c.requires.trail above id (slice_get_read ids (length ids) above id refl (omega (arith, more)) w.index.ensures) in
+          let inside : above < length path = omega (arith, more, c.requires.more) in
+          let known : get_or ids above None ≡ made_at r (take above path) =
+          c.requires.trail above (get_or ids above None) (slice_get-get_or ids above None (omega (arith, more))) in
           put
           ∙ ap (λ k. put_by nodes (found changes (take (length ids) path)) k)
-          (w.kept-is ∙ w.kid-kept.ensures ∙ ap (λ n. kid_at (node_at nodes) id n) (sym w.index-self-above.is)
-          ∙ ap (λ i. kid_at (node_at nodes) i name) known)
-          ∙ sym (made_next r path above (length ids) name more (omega (arith, more, c.requires.more)) w.index-self-above.is)
+          (w.kept-is ∙ w.entry-kept.ensures ∙ ap (λ i. kid_at (node_at nodes) i name) known)
+          ∙ sym (made_next r path above (length ids) name more inside (get_or_default path above [] name inside))
       | in-None w ↦
           let none : length ids ≡ 0 = omega (arith, w.in-None.ensures, depth) in
           put

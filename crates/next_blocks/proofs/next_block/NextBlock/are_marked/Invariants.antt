@@ -1,9 +1,0 @@
-use Rattle.std.proofs.Common.{take}
-use Rattle.std.specs.List.{All}
-use Rattle.repo_api.specs.Histories.{Changed}
-use Rattle.next_blocks.specs.Rules.{IsMarked, past_of}
-use Rattle.next_blocks.proofs.next_block.NextBlock.are_marked.Given as goal
-
-abbrev pub invariant-loop-change : goal.invariant-loop-change
-invariant-loop-change l =
-    All (λ (e : Changed). IsMarked (past_of l.self.nodes.now) l.self.block.now e.0) (take l.change-index l.self.changes.now)

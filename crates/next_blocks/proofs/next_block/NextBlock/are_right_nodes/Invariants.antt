@@ -1,9 +1,0 @@
-use Rattle.std.proofs.Common.{◌≡◌, ◌<◌, ℕ, Some, slice_get}
-use Rattle.noderevs.specs.declared.node_rev.NodeRev.{NodeRev}
-use Rattle.next_blocks.specs.Rules.{IsRightNode, past_of}
-use Rattle.next_blocks.proofs.next_block.NextBlock.are_right_nodes.Given as goal
-
-abbrev pub invariant-loop-place : goal.invariant-loop-place
-invariant-loop-place l =
-    (k : ℕ) (node : NodeRev) → k < l.place → slice_get l.self.block.now.nodes.items k ≡ Some node
-    → IsRightNode (past_of l.self.nodes.now) l.self.block.now l.self.changes.now k node

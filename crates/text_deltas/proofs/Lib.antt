@@ -1,0 +1,7 @@
+pub mod Alikes
+pub mod Bytes
+pub mod Documents
+pub mod Shares
+pub mod Views
+pub mod Whole
+pub mod Written

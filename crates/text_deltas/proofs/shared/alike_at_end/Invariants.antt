@@ -1,0 +1,11 @@
+use Rattle.std.proofs.Common.{length, ◌-◌, ◌≡◌, drop, reverse, ◌+◌}
+use Rattle.text_deltas.specs.Alike.{alike}
+use Rattle.text_deltas.proofs.shared.alike_at_end.Given as goal
+
+abbrev pub invariant-loop-count : goal.invariant-loop-count
+invariant-loop-count l =
+    l.count + alike (drop l.count (reverse l.before)) (drop l.count (reverse l.text))
+    ≡ alike (reverse l.before) (reverse l.text)
+
+abbrev pub decreases-loop-count : goal.decreases-loop-count
+decreases-loop-count l = length l.before - l.count

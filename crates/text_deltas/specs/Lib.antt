@@ -1,0 +1,4 @@
+pub mod Alike
+pub mod Bounds
+pub mod Deltas
+pub mod Streams
