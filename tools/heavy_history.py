@@ -98,19 +98,25 @@ def dates(row):
     goes_within(row, f"{20 * DATES:,} of them", ask * 20 * DATES)
 
 
-def growing_text(number, size):
-    """An svndiff document over a text of this size, by which the first bytes of its first window are others."""
-    first = window(0, WINDOW, WINDOW, b"\x88" + copied(WINDOW - 8, 8), b"%08d" % number)
-    others = (window(begin, WINDOW, WINDOW, copied(WINDOW, 0), b"") for begin in range(WINDOW, size, WINDOW))
+def growing_text(number, size, is_whole):
+    """An svndiff document over a text of this size, by which the first eight bytes are others; and where it is to be sent whole, the
+    last eight, too, so that it has nothing in common with the one before that a delta copies."""
+    other = b"%08d" % number
+    first = window(0, WINDOW, WINDOW, b"\x88" + copied(WINDOW - 8, 8), other)
+    others = [window(begin, WINDOW, WINDOW, copied(WINDOW, 0), b"") for begin in range(WINDOW, size, WINDOW)]
+    if is_whole:
+        others[-1] = window(size - WINDOW, WINDOW, WINDOW, copied(WINDOW - 8, 0) + b"\x88", other)
     return NO_TEXT + first + b"".join(others)
 
 
-def with_long_texts(client, path, size, count):
+def with_long_texts(client, path, size, count, is_whole=True):
     """A file of so many revisions, each with a text of this size. Gives the last revision."""
     edit(client, add_file(path, "d0", "c1"), *delta("c1", document(os.urandom(WINDOW))), close_file("c1"))
     pieces = b"".join(window(0, WINDOW, WINDOW, copied(WINDOW, 0), b"") for _ in range(size // WINDOW))
     edit(client, open_file(path, "d0", "c1"), *delta("c1", NO_TEXT + pieces), close_file("c1"))
-    return changes(client, count, lambda number: [open_file(path, "d0", "c1"), *delta("c1", growing_text(number, size)), close_file("c1")])
+    return changes(
+        client, count, lambda number: [open_file(path, "d0", "c1"), *delta("c1", growing_text(number, size, is_whole)), close_file("c1")]
+    )
 
 
 def blamed(client, command):
@@ -131,18 +137,20 @@ def blames(row):
     """The revisions of a file with their texts: of one that takes them, of many that take nothing, and of those that go."""
     count, alice, today = row.options.revisions, row.client("alice"), {"is_of_today": True}
     many = count // 8
-    with row.attack(f"{many} commits of a text of 1 MiB, of which eight bytes differ"):
+    with row.attack(f"{many} commits of a text of 1 MiB, of which the first and the last bytes differ"):
         last = with_long_texts(alice, "long", MEBIBYTE, many)
-    with row.attack("4 commits of a text of 16 MiB, of which eight bytes differ"):
+    with row.attack("4 commits of a text of 16 MiB, of which the first and the last bytes differ, and 4 of one of which the first do"):
         with_long_texts(alice, "longest", TEXT, 4)
+        with_long_texts(alice, "nearly", TEXT, 4, is_whole=False)
     edit(alice, add_file("short", "d0", "c1") + close_file("c1"))
     begin = open_file("short", "d0", "c1")
     changes(alice, count, lambda number: [begin, *delta("c1", document(b"%d" % number)), close_file("c1")])
     of_long, of_longest = spelling.file_revisions("long", 0, last), spelling.file_revisions("longest", 0)
-    of_short = spelling.file_revisions("short", 0)
+    of_short, of_nearly = spelling.file_revisions("short", 0), spelling.file_revisions("nearly", 0)
     for what, command, most in (
         (f"the {many + 2} revisions of a file with texts of 1 MiB", of_long, None),
         ("the same from the newest", spelling.file_revisions("long", last, 0), None),
+        ("the 6 revisions of a file with texts of 16 MiB that are nearly the same", of_nearly, BLAMED_WITHIN),
         (f"the {count:,} revisions of a file with short texts", of_short, BLAMED_WITHIN),
         ("the newest of them alone", spelling.file_revisions("short"), BLAMED_WITHIN),
     ):
@@ -153,6 +161,7 @@ def blames(row):
     if row.is_other:
         return
     goes_within(row, "the revisions with texts of 1 MiB", of_long, **today)
+    goes_within(row, "a hundred times those with texts of 16 MiB that are nearly the same", of_nearly * 100, **today)
     goes_within(row, "a hundred times the revisions with short texts", of_short * 100, **today)
 
 

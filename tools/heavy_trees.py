@@ -156,10 +156,8 @@ def many(client, tops, count):
 def searches(row):
     """A drive that has nothing to say, of a client that waits for its end, and of those that go."""
     width = row.options.width
-    alice = row.client("alice")
-    with row.attack(f"two commits of {width * (width + 1) + 1:,} directories"):
-        many(alice, "a", width)
-        revision = many(alice, "b", width)
+    with row.attack(f"a commit of {2 * (width * (width + 1) + 1):,} directories"):
+        revision = many(row.client("alice"), "ab", width)
     switch = switch_of("a", "b", revision)
     with row.attack(f"a switch between directories of {width * (width + 1):,} that are alike") as cost:
         told, _is_over = driven(row.client(), switch, row.patience())
