@@ -2,8 +2,8 @@
 use Rattle.std.proofs.Common.{◌≡◌, ℕ, zero, suc, ◌+◌, ◌-◌, ◌*◌, ◌/◌, ◌%◌, ◌<◌, ◌≤◌, Bool, true, false, not, ◌&&◌, cond, eqb, List, [], ◌∷◌, ◌++◌, length, map}
 use Rattle.std.proofs.{Common.{Option, Some, None, refl, sym, ap, ◌∙◌, append_assoc, arith, inl, inr, ◌⊎◌, lit<}, lemmas.Bool.{cases_lt, ne_eqb}}
 use Rattle.std.proofs.{Math.Nat.{mod-lt, div-lt_self, div-add-mod, mul_comm}, lemmas.Bool.Decides.nat_tests, lemmas.List.{map-append, length-map}}
-use Rattle.std.proofs.lemmas.Int.Digits.{digits_of_step, length-digits_of_step, all_below_base_digits_of}
-use Rattle.std.specs.{Option.option_and_then, Int.Digits.{digits_of, AllBelowBase}}
+use Rattle.std.proofs.lemmas.{Fmt.{decimal_by_steps}, Int.Digits.{digits_of_step, length-digits_of_step, all_below_base_digits_of}}
+use Rattle.std.specs.{Option.option_and_then, Int.Digits.{digits_of, AllBelowBase}, Prelude.{decimal, ◌^◌}}
 use Rattle.fsfs_lines.specs.{Splits.is_free, Numerals.{glyph, numeral, digit_of, with_digit, with_byte, digits_behind, number_of}}
 
 pub digits_behind-push : (base limit n : ℕ) (bytes : List ℕ) (b : ℕ)
@@ -100,3 +100,39 @@ pub digits-step : (base n : ℕ) (old : List ℕ) → 2 ≤ base → 0 < n → (
 digits-step base n old low some =
     append_assoc old (map glyph (digits_of base (n / base))) (glyph (n % base) ∷ [])
     ∙ ap (λ (x : List ℕ). old ++ x) (sym (ap (map glyph) (digits_of_step base n low some) ∙ map-append glyph (digits_of base (n / base)) (n % base ∷ [])))
+
+-- a number in decimal, as the library spells it
+glyph_low : (d : ℕ) → d < 10 → glyph d ≡ 48 + d
+glyph_low d low = grind (arith, nat_tests)
+
+numeral_some : (n : ℕ) → 0 < n → numeral 10 n ≡ map glyph (digits_of 10 n)
+unfolding numeral
+numeral_some n some = rw (ne_eqb n 0 (λ e. omega arith)) refl
+
+numeral_none : numeral 10 0 ≡ 48 ∷ []
+unfolding numeral
+numeral_none = refl
+
+numeral_more : (n : ℕ) → 0 < n → numeral 10 n ≡ map glyph (digits_of 10 (n / 10)) ++ (48 + n % 10) ∷ []
+numeral_more n some =
+    numeral_some n some ∙ sym (digits-step 10 n [] (omega arith) some)
+    ∙ ap (λ g. map glyph (digits_of 10 (n / 10)) ++ g ∷ []) (glyph_low (n % 10) (mod-lt n (omega arith)))
+
+numeral_one : (n : ℕ) → n < 10 → (48 + n) ∷ [] ≡ numeral 10 n
+numeral_one n low = by (cases_lt 0 n)
+  where
+    by : (0 < n) ⊎ (n ≤ 0) → (48 + n) ∷ [] ≡ numeral 10 n
+    by (inl some) =
+        let none : n / 10 ≡ 0 = omega arith in
+        let whole : n % 10 ≡ n = omega arith in
+        sym (numeral_more n some ∙ (rw (none, whole) refl))
+    by (inr none) =
+        let zero_is : n ≡ 0 = omega arith in
+        rw zero_is (sym numeral_none)
+
+pub decimal_numeral : (n : ℕ) → n < 2 ^ 64 → decimal n ≡ numeral 10 n
+decimal_numeral n small = decimal_by_steps (λ m ds. ds ≡ numeral 10 m) numeral_one more n small
+  where
+    more : (m : ℕ) (ds : List ℕ) → 10 ≤ m → ds ≡ numeral 10 (m / 10) → ds ++ (48 + m % 10) ∷ [] ≡ numeral 10 m
+    more m ds long before =
+        ap (λ l. l ++ (48 + m % 10) ∷ []) (before ∙ numeral_some (m / 10) (omega arith)) ∙ sym (numeral_more m (omega arith))

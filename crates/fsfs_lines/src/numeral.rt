@@ -49,7 +49,8 @@ pub fn append_numeral(out: &mut Vec<u8>, base: u8, n: u128) -> Result<(), AllocE
 pub fn append_number(out: &mut Vec<u8>, n: u64) -> Result<(), AllocError>
     ensures { OnOk result (out.new.items ≡ out.old.items ++ numeral 10 n) }
 {
-    append_numeral(out, 10, n as u128)
+    let mut buffer = itoa::Buffer::new();
+    out.extend_from_slice(buffer.format(n).as_bytes())
 }
 
 /// Gives what a digit stands for.

@@ -4,17 +4,7 @@ ghost use Rattle.std.specs.List.{AllByRecursion, Contains};
 
 use crate::parts::Entry;
 use crate::same::{Same, is_entry};
-use byte_string::ByteString;
 use std::alloc::{AllocError, Global};
-
-/// Finds the first place, from this one on, that has the name or a later one.
-fn place_from<V>(entries: &[&Entry<V>], from: usize, name: &ByteString) -> usize {
-    let mut at = from;
-    while at < entries.len() && entries[at].0 < *name {
-        at += 1;
-    }
-    at
-}
 
 /// Says whether the entry stands at the place.
 fn stands_at<V: Same>(entries: &[&Entry<V>], place: usize, entry: &Entry<V>) -> bool
@@ -25,6 +15,20 @@ fn stands_at<V: Same>(entries: &[&Entry<V>], place: usize, entry: &Entry<V>) -> 
     }
     let other = entries[place];
     is_entry(other, &entry.0, &entry.1)
+}
+
+/// Finds the first place, from this one on, that has the name of the entry or a later one. Where it is the next place that has the
+/// entry, as among others that are mostly the same, no other is looked at.
+fn place_from<V: Same>(others: &[&Entry<V>], from: usize, entry: &Entry<V>) -> usize {
+    let next = from.saturating_add(1);
+    if stands_at(others, next, entry) {
+        return next;
+    }
+    let mut at = from;
+    while at < others.len() && others[at].0 < entry.0 {
+        at += 1;
+    }
+    at
 }
 
 /// Lists the entry if it does not stand at the place among others.
@@ -60,7 +64,7 @@ pub(crate) fn unlike<'a, V: Same>(
     let mut list = Vec::new(alloc);
     let mut at = 0;
     for entry in entries {
-        at = place_from(others, at, &entry.0);
+        at = place_from(others, at, entry);
         list_unlike(&mut list, others, at, entry)?;
     }
     Ok(list)

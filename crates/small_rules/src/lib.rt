@@ -19,11 +19,11 @@ pub fn is_of_whole_tree(action: Action) -> bool
     }
 }
 
-/// Says whether both texts have the same bytes.
+/// Says whether both texts have the same bytes. Those of other digests, which are kept, have not, and are not looked at.
 pub fn is_same_text(old: &FileText, new: &FileText) -> bool
     ensures { result ≡ is_name old.now new.now }
 {
-    old.as_slice() == new.as_slice()
+    old.digest() == new.digest() && old.as_slice() == new.as_slice()
 }
 
 /// Says whether an entry of the old kind gives way: nothing, or an entry of another kind, is to stand there.

@@ -74,7 +74,7 @@ same_front (x ∷ xs) [] = refl
 same_front (x ∷ xs) (y ∷ ys) = more_front x y xs ys (x == y) refl (same_front xs ys)
 
 -- the last bytes, first in the text read backwards
-last_bytes : (xs : List ℕ) (k : ℕ) → k ≤ length xs → drop (length xs - k) xs ≡ reverse (take k (reverse xs))
+pub last_bytes : (xs : List ℕ) (k : ℕ) → k ≤ length xs → drop (length xs - k) xs ≡ reverse (take k (reverse xs))
 last_bytes xs k h =
     let back = reverse (drop k (reverse xs)) in
     let end = reverse (take k (reverse xs)) in

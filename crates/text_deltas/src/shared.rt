@@ -1,6 +1,8 @@
 //! What two texts have in common.
-ghost use Rattle.std.specs.Prelude.{◌≡◌, ◌≤◌, drop, length, reverse};
+ghost use Rattle.std.specs.Prelude.{◌≡◌, ◌≤◌, ◌+◌, ◌↔◌, IsTrue, drop, length, reverse, take};
 ghost use Rattle.text_deltas.specs.Alike.{alike, alike_behind, if_worth, is_near, shared_by};
+
+use std::simd::prelude::*;
 
 /// How far a view reaches to either side of its window, in bytes.
 pub(crate) const REACH: usize = 17_000;
@@ -18,13 +20,58 @@ pub struct Shared {
     pub back: usize,
 }
 
+/// How many bytes are compared at a time.
+const GROUP: usize = 32;
+
+/// Says whether both texts begin with the same group of bytes.
+#[inline(always)]
+fn is_alike(before: &[u8], text: &[u8]) -> bool
+    requires { (32 ≤ length before.now) × (32 ≤ length text.now) }
+    ensures { IsTrue result ↔ (take 32 before.now ≡ take 32 text.now) }
+{
+    u8x32::from_slice(before)
+        .simd_eq(u8x32::from_slice(text))
+        .all()
+}
+
+/// Counts the bytes of the groups with which both texts begin.
+fn alike_in_groups(before: &[u8], text: &[u8]) -> usize
+    ensures { result + alike (drop result before.now) (drop result text.now)
+        ≡ alike before.now text.now }
+{
+    let both = before.len().min(text.len());
+    let mut count = 0;
+    while GROUP <= both - count && is_alike(&before[count..], &text[count..]) {
+        count += GROUP;
+    }
+    count
+}
+
 /// Counts the bytes with which both texts begin.
 fn alike(before: &[u8], text: &[u8]) -> usize
     ensures { result ≡ alike before.now text.now }
 {
-    let mut count = 0;
+    let mut count = alike_in_groups(before, text);
     while count < before.len() && count < text.len() && before[count] == text[count] {
         count += 1;
+    }
+    count
+}
+
+/// Counts the bytes of the groups with which both texts end.
+fn alike_in_groups_at_end(before: &[u8], text: &[u8]) -> usize
+    ensures { result + alike (drop result (reverse before.now)) (drop result (reverse text.now))
+        ≡ alike (reverse before.now) (reverse text.now) }
+{
+    let both = before.len().min(text.len());
+    let mut count = 0;
+    while GROUP <= both - count
+        && is_alike(
+            &before[before.len() - count - GROUP..],
+            &text[text.len() - count - GROUP..],
+        )
+    {
+        count += GROUP;
     }
     count
 }
@@ -33,7 +80,7 @@ fn alike(before: &[u8], text: &[u8]) -> usize
 fn alike_at_end(before: &[u8], text: &[u8]) -> usize
     ensures { result ≡ alike (reverse before.now) (reverse text.now) }
 {
-    let mut count = 0;
+    let mut count = alike_in_groups_at_end(before, text);
     while count < before.len()
         && count < text.len()
         && before[before.len() - 1 - count] == text[text.len() - 1 - count]

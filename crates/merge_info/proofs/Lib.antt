@@ -1,0 +1,10 @@
+pub mod Pushes
+pub mod Sweeping
+pub mod Odds
+pub mod Reading
+pub mod Joined
+pub mod Named
+pub mod Lines
+pub mod Gathering
+pub mod Rights
+pub mod Again

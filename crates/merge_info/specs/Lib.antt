@@ -1,0 +1,6 @@
+pub mod Maybe
+pub mod Ranges
+pub mod Sources
+pub mod Texts
+pub mod Sweeps
+pub mod Gathered

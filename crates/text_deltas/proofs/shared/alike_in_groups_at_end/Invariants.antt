@@ -1,0 +1,12 @@
+use Rattle.std.proofs.Common.{◌-◌, ◌≡◌, ◌≤◌, drop, reverse, ◌+◌}
+use Rattle.text_deltas.specs.Alike.{alike}
+use Rattle.text_deltas.proofs.shared.alike_in_groups_at_end.Given as goal
+
+abbrev pub invariant-loop-count : goal.invariant-loop-count
+invariant-loop-count l =
+    (l.count ≤ l.both)
+    × (l.count + alike (drop l.count (reverse l.before)) (drop l.count (reverse l.text))
+    ≡ alike (reverse l.before) (reverse l.text))
+
+abbrev pub decreases-loop-count : goal.decreases-loop-count
+decreases-loop-count l = l.both - l.count
