@@ -14,6 +14,16 @@ pub enum Location {
     Folder(String),
 }
 
+/// One session over the standard streams: where the repository is, its name, the account that the client came as, if that is said,
+/// and whether it may change the properties of revisions.
+#[derive(Debug, Drop)]
+pub struct SoleSession {
+    pub location: Location,
+    pub name: String,
+    pub account: Option<String>,
+    pub revprops: bool,
+}
+
 /// Sessions over TCP: the repository of this name, at which addresses to listen, the file of users, how many sessions there may be
 /// at a time, and how many of them the clients of one address may have, whether clients may change the properties of revisions,
 /// whether nothing is told on standard error but a fault, and whether the program ends once changes have come to a halt.
@@ -68,13 +78,8 @@ pub enum Order {
         new: String,
         quiet: bool,
     },
-    /// Serve one session over the standard streams, on the repository of this name, whose clients may change the
-    /// properties of revisions or not.
-    Stdio {
-        location: Location,
-        name: String,
-        revprops: bool,
-    },
+    /// Serve one session over the standard streams.
+    Stdio(SoleSession),
     /// Serve sessions over TCP.
     Serve(Service),
     /// Ask the server at an address which revision of the repository of this name is the youngest.

@@ -34,6 +34,9 @@ pub(crate) const FORMAT: &str = "format";
 /// The argument that names the repository.
 pub(crate) const NAME: &str = "name";
 
+/// The argument that names the account that a client came as.
+pub(crate) const TUNNEL_USER: &str = "tunnel-user";
+
 /// The argument that says where to listen, which may be there several times.
 pub(crate) const LISTEN: &str = "listen";
 
@@ -97,6 +100,16 @@ fn revprops_argument<'a>(alloc: Global) -> Arg<'a> {
         alloc,
         REVPROPS,
         "Lets clients change the properties of revisions",
+    )
+}
+
+/// Makes the argument that names the account that a client came as.
+fn tunnel_user_argument<'a>(alloc: Global) -> Arg<'a> {
+    optional_argument(
+        alloc,
+        TUNNEL_USER,
+        "NAME",
+        "The account that the client came as: it logs in by this name, and its commits and locks are by it",
     )
 }
 
@@ -192,7 +205,7 @@ fn migrate_command<'a>(alloc: Global) -> Result<Command<'a>, AllocError> {
         .arg(quiet_argument(alloc))
 }
 
-/// Makes the command `stdio DIR --name NAME [--revprops]`.
+/// Makes the command `stdio DIR --name NAME [--tunnel-user NAME] [--revprops]`.
 fn stdio_command<'a>(alloc: Global) -> Result<Command<'a>, AllocError> {
     Command::new(alloc, STDIO)
         .about("Serves one client over standard input and output")
@@ -201,6 +214,7 @@ fn stdio_command<'a>(alloc: Global) -> Result<Command<'a>, AllocError> {
             "The repository's folder, as `create` makes it; `-` is an empty repository in memory",
         ))?
         .arg(name_argument(alloc))?
+        .arg(tunnel_user_argument(alloc))?
         .arg(revprops_argument(alloc))
 }
 

@@ -3,10 +3,10 @@ ghost use Rattle.std.specs.Prelude.{◌≡◌, IfOk, IfSome, MatchOption, Some};
 ghost use Rattle.command_line.specs.{Counts.{IsCount, IsWithin}, declared.order.TheConstants.SESSION_LIMIT};
 
 use crate::fault::CommandLineFault;
-use crate::order::{Location, NewFormat, Order, SESSION_LIMIT, Service};
+use crate::order::{Location, NewFormat, Order, SESSION_LIMIT, Service, SoleSession};
 use crate::program::{
     ADDRESS, CREATE, EXIT_ON_HALT, FOLDER, FORMAT, LISTEN, MIGRATE, NAME, NEW, PER_ADDRESS, QUIET,
-    REVPROPS, SERVE, SESSIONS, STATUS, USERS, program,
+    REVPROPS, SERVE, SESSIONS, STATUS, TUNNEL_USER, USERS, program,
 };
 use clap::error::ErrorKind;
 use clap::{ArgMatches, Error};
@@ -14,6 +14,9 @@ use std::alloc::Global;
 
 /// How many sessions there may be at a time where nothing is said of it.
 const USUAL_SESSIONS: u64 = 16;
+
+/// The most bytes of an account's name.
+const ACCOUNT_LIMIT: usize = 255;
 
 /// The folder that stands for an empty repository in memory.
 const IN_MEMORY: &str = "-";
@@ -133,15 +136,36 @@ fn migrate_order(alloc: Global, matches: &ArgMatches<'_>) -> Result<Order, Comma
     })
 }
 
+/// Says whether an account may have this name: 1 to 255 bytes, and no control character of ASCII.
+fn is_account(name: &str) -> bool {
+    let bytes = name.as_bytes();
+    !bytes.is_empty()
+        && bytes.len() <= ACCOUNT_LIMIT
+        && !bytes.iter().any(|byte| byte.is_ascii_control())
+}
+
+/// Gives the account that the client came as, if that is said.
+fn account_of(alloc: Global, matches: &ArgMatches<'_>) -> Result<Option<String>, CommandLineFault> {
+    match matches.get_str(TUNNEL_USER) {
+        None => Ok(None),
+        Some(name) if is_account(name) => Ok(Some(String::from_str(alloc, name)?)),
+        Some(_) => Err(bad(
+            alloc,
+            "error: NAME of --tunnel-user is 1 to 255 bytes, without control characters\n",
+        )),
+    }
+}
+
 /// Makes the order that the arguments of `stdio` give.
 fn stdio_order(alloc: Global, matches: &ArgMatches<'_>) -> Result<Order, CommandLineFault> {
     let location = location_of(alloc, matches)?;
     let name = value_of(alloc, matches, NAME)?;
-    Ok(Order::Stdio {
+    Ok(Order::Stdio(SoleSession {
         location,
         name,
+        account: account_of(alloc, matches)?,
         revprops: matches.get_flag(REVPROPS),
-    })
+    }))
 }
 
 /// Reads a count from 1 to so many; none where the word is no such count.

@@ -1,17 +1,17 @@
 //! Connections as they come: each becomes a session, waits for a place, or is turned away.
 
-use crate::clients::{Client, caller_of, prepare};
+use crate::clients::{ClientVisit, caller_of, prepare};
 use crate::clock::millis_now;
 use crate::events::Event;
 use crate::refusing::turn_away;
 use crate::registry::Registry;
 use crossbeam_channel::Sender;
 use refusals::Refusal;
-use session_pool::{Admission, SessionPool};
-use std::alloc::Global;
+use session_pool::{Admission, Reading, SessionPool, Visit};
+use std::alloc::{AllocError, Global};
 use std::collections::VecDeque;
 use std::net::{IpAddr, Net, SocketAddr, TcpListener, TcpStream};
-use std::sync::Wait;
+use std::sync::{Arc, Wait};
 use std::thread;
 use std::time::{Clock, Duration};
 
@@ -38,6 +38,29 @@ const LAST_TURN: u64 = 50;
 pub trait Halts {
     /// Says whether changes are known to have come to a halt. It waits for nobody.
     fn takes_no_changes(&self) -> bool;
+}
+
+/// Knows the newest reading of the file of users.
+pub trait Readings {
+    /// Gives what a session is served by that begins now; none where it is served by what the server was started with. The
+    /// file of users is read anew where it has changed, and the journal has a line of that.
+    fn newest<R: Clock + Wait>(
+        &self,
+        registry: &Registry<'_, R>,
+    ) -> Result<Option<Arc<Reading>>, AllocError>;
+}
+
+/// Never reads the file of users again.
+#[derive(Clone, Copy)]
+pub struct ReadOnce;
+
+impl Readings for ReadOnce {
+    fn newest<R: Clock + Wait>(
+        &self,
+        _registry: &Registry<'_, R>,
+    ) -> Result<Option<Arc<Reading>>, AllocError> {
+        Ok(None)
+    }
 }
 
 /// Where so many connections come in, at these addresses, so many of one client's address at a time, with what is known of those
@@ -85,15 +108,16 @@ struct Newcomer {
 
 /// What takes connections, and keeps those that wait for a place, in the order in which they have come.
 #[derive(Drop)]
-struct Acceptor<'s, 'e, R, H: Drop> {
+struct Acceptor<'s, 'e, R, H: Drop, N> {
     entrance: &'e Entrance<'e, R, H>,
     pool: &'s SessionPool<'s, Registry<'s, R>, Registry<'s, R>>,
-    callers: &'s Sender<Client<'e, R>>,
+    visits: &'s Sender<ClientVisit<'e, R>>,
+    readings: &'s N,
     queue: VecDeque<Newcomer>,
     left: usize,
 }
 
-impl<'s, 'e, R: Clock + Net + Wait, H: Halts + Drop> Acceptor<'s, 'e, R, H> {
+impl<'s, 'e, R: Clock + Net + Wait, H: Halts + Drop, N: Readings> Acceptor<'s, 'e, R, H, N> {
     /// Says whether one address may not have all sessions.
     fn has_limit(&self) -> bool {
         self.entrance.per_address < self.entrance.registry.sessions()
@@ -143,12 +167,23 @@ impl<'s, 'e, R: Clock + Net + Wait, H: Halts + Drop> Acceptor<'s, 'e, R, H> {
         }
     }
 
+    /// Makes the visit of a connection, with the newest reading of the file of users.
+    fn visit_of(
+        &self,
+        comes: (TcpStream, SocketAddr),
+        number: u64,
+    ) -> Result<ClientVisit<'e, R>, AllocError> {
+        let (alloc, registry) = (self.entrance.alloc, &self.entrance.registry);
+        let reading = self.readings.newest(registry)?;
+        let caller = caller_of(alloc, registry, comes, number)?;
+        Ok(Visit::new(reading, caller))
+    }
+
     /// Says whether a connection is on its way to a worker.
     fn hand_over(&self, comes: (TcpStream, SocketAddr), number: u64) -> bool {
-        let (alloc, registry) = (self.entrance.alloc, &self.entrance.registry);
-        match caller_of(alloc, registry, comes, number) {
-            Ok(caller) => self.callers.send(self.entrance.rt, caller).is_ok(),
-            Err(_) => false,
+        match self.visit_of(comes, number) {
+            Ok(visit) => self.visits.send(self.entrance.rt, visit).is_ok(),
+            Err(AllocError) => false,
         }
     }
 
@@ -330,16 +365,18 @@ impl<'s, 'e, R: Clock + Net + Wait, H: Halts + Drop> Acceptor<'s, 'e, R, H> {
     }
 }
 
-/// Takes connections as they come.
-pub fn take_all<'e, R: Clock + Net + Wait, H: Halts + Drop>(
+/// Takes connections as they come. Each session is served by the newest reading of the file of users.
+pub fn take_all<'e, R: Clock + Net + Wait, H: Halts + Drop, N: Readings>(
     entrance: &'e Entrance<'e, R, H>,
     pool: &SessionPool<'_, Registry<'_, R>, Registry<'_, R>>,
-    callers: &Sender<Client<'e, R>>,
+    visits: &Sender<ClientVisit<'e, R>>,
+    readings: &N,
 ) {
     let mut acceptor = Acceptor {
         entrance,
         pool,
-        callers,
+        visits,
+        readings,
         queue: VecDeque::new(entrance.alloc),
         left: entrance.connections,
     };

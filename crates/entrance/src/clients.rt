@@ -5,7 +5,7 @@ use crate::clock::millis_now;
 use crate::registry::Registry;
 use crate::visitor::Visitor;
 use presence::{Connection, has_gone};
-use session_pool::Caller;
+use session_pool::{Caller, Visit};
 use std::alloc::{AllocError, Global};
 use std::io::{ErrorKind, Read, Write};
 use std::net::{SocketAddr, TcpStream};
@@ -31,6 +31,9 @@ const COMMANDS: usize = 2_048;
 
 /// A client that has come, on its way to a worker.
 pub type Client<'a, R> = Caller<ClientInput<'a, R>, ClientOutput, Visitor<'a, R>>;
+
+/// A client that has come, with the reading that its session is served by.
+pub type ClientVisit<'a, R> = Visit<ClientInput<'a, R>, ClientOutput, Visitor<'a, R>>;
 
 /// Sets what each connection has: replies go out at once, and nobody waits for a client for long.
 pub(crate) fn prepare(stream: &TcpStream) -> io::Result<()> {

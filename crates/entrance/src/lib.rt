@@ -12,8 +12,9 @@ mod refusing;
 mod registry;
 mod visitor;
 
-pub use accepting::{Entrance, Halts, MAX_WAITING, take_all};
-pub use clients::{Client, ClientInput, ClientOutput};
+pub use accepting::{Entrance, Halts, MAX_WAITING, ReadOnce, Readings, take_all};
+pub use clients::{Client, ClientInput, ClientOutput, ClientVisit};
+pub use clock::millis_now;
 pub use events::Event;
 pub use limits::too_few_files;
 pub use registry::Registry;

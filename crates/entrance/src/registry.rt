@@ -154,6 +154,11 @@ impl<'a, R: Clock + Wait> Registry<'a, R> {
         }
     }
 
+    /// Tells what came of a reading of the file of users.
+    pub fn tell_reading(&self, text: Result<String, AllocError>) {
+        self.journal.tell(text);
+    }
+
     /// Says whether a line is to be written of what clients do, and where its memory comes from.
     pub(crate) fn writes_deeds(&self) -> Option<Global> {
         if self.is_quiet() {

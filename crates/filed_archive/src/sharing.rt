@@ -6,8 +6,8 @@ ghost use Rattle.keepers.specs.Standing.{HaveSeenOpening};
 ghost use Rattle.published.specs.Events.{point_of};
 
 use crate::filed_archive::FiledArchive;
-use keepers::Seat;
 use published::{Files, Naming, NewHistory, Published, Shown};
+use seats::Seat;
 use sharedrepo::SharedRepo;
 use std::alloc::Global;
 use std::mem::drop;

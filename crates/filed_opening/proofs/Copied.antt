@@ -1,20 +1,22 @@
 -- A repository that is copied.
-use Rattle.std.proofs.Common.{◌≡◌, ◌-◌, ◌+◌, ◌<◌, ℕ, Bool, true, false, cond, List, [], Option, Some, None, Result, Err, inl, inr, length, option_and_then, option_map, refl, sym, ap, subst, arith, le_refl, ◌∙◌}
-use Rattle.std.proofs.lemmas.Option.{none-some, same_Some}
-use Rattle.std.specs.{Prelude.{nat_le}, Result.result_ok}
+use Rattle.std.proofs.Common.{◌≡◌, ◌-◌, ◌+◌, ◌<◌, ℕ, Bool, true, false, cond, List, [], Option, Some, None, Result, Err, inl, inr, length, option_and_then}
+use Rattle.std.proofs.{Common.{option_map, refl, sym, ap, subst, arith, le_refl, ◌∙◌}, lemmas.Option.{none-some, same_Some}}
+use Rattle.std.specs.{Prelude.nat_le, Result.result_ok}
 use Rattle.repo_api.specs.States.{RepoState}
 use Rattle.store_files.specs.{Folders.{Folder, text_of}, Stops.LeavesOnly, declared.name.FileName.TheVariants.{Current, Format}, declared.store.Store.Ghosts}
 use Rattle.store_files.specs.{declared.fault.StoreFault.StoreFault, declared.fault.StoreFault.TheVariants.{Device, Exists, File, Halted, NoMemory}}
-use Rattle.repostore.specs.{Creating.{IsFreeOrHas, IsFreeWith}, Current.{count_in, counted, number_in}, Files.{Files, HasFiles, RevisionFiles, reached}, Opening.OnlyReads, Reading.IfFaulty, Saving.Stands}
-use Rattle.repostore.specs.{Migrating.{IsFree, Makes, moved_files, moved_locks}, declared.migrating.Moved.Moved}
-use Rattle.repostore.proofs.{Copying.both, Reaching.{are_one, format_is, is_length, reached_has}, Steps.{ok_gives, stands_too, weaker}}
+use Rattle.repostore.specs.{Current.{count_in, counted, number_in}, Files.{Files, HasFiles, RevisionFiles, reached}, Opening.OnlyReads, Reading.IfFaulty}
+use Rattle.repostore.specs.Saving.{Stands}
+use Rattle.repository_creation.specs.{Creating.{IsFreeOrHas, IsFreeWith}, Migrating.{IsFree, Makes, moved_files, moved_locks}, declared.migrating.Moved.Moved}
+use Rattle.repostore.proofs.{Reaching.{are_one, format_is, is_length, reached_has}, Steps.{ok_gives, stands_too, weaker}}
+use Rattle.repository_creation.proofs.Copying.{both}
 use Rattle.fsfs_format.specs.Formats.{format_of, layout_in}
 use Rattle.fsfs_folder.specs.{Current.current_of, Locks.locks_of}
 use Rattle.filed_trees.specs.StandsFor.{locks_in}
 use Rattle.store_access.specs.Keeping.{HasRepository}
 use Rattle.filed_world.specs.{Files.{IsOf, filed_content}, declared.filed_world.FiledWorld.FiledWorld}
 use Rattle.filed_world.proofs.Changed.{said_is}
-use Rattle.filed_opening.specs.{Creating.{new_format}, Migrating.{IsFreeOrContains, IsHindrance, Migrates, MigratesTo, current_in_copy}}
+use Rattle.filed_opening.specs.{Creating.new_format, Migrating.{IsFreeOrContains, IsHindrance, Migrates, MigratesTo, current_in_copy}}
 
 -- where nothing is faulty, the device or memory has failed
 pub hinders : (fault : StoreFault) (P : Type 0) → (P → ⊥) → IfFaulty fault P → IsHindrance fault

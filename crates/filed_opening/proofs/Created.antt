@@ -3,7 +3,8 @@ use Rattle.std.proofs.Common.{◌≡◌, inl, inr, ℕ, List, Option, None, subs
 use Rattle.dates.specs.Dates.{IsDateText}
 use Rattle.store_files.specs.Folders.{Folder}
 use Rattle.repo_api.specs.Opening.{new_repository}
-use Rattle.repostore.specs.{Creating.{IsFreeOrHas, opening_files}, Files.HasFiles, declared.creating.Opening.Opening}
+use Rattle.repostore.specs.Files.{HasFiles}
+use Rattle.repository_creation.specs.{Creating.{IsFreeOrHas, opening_files}, declared.creating.Opening.Opening}
 use Rattle.filed_world.specs.{Creating.new_files, Files.{IsOf, filed_content}, declared.creating.NewFiles.NewFiles, declared.filed_world.FiledWorld.FiledWorld}
 use Rattle.filed_opening.specs.Creating.{HasNew, IsFreeOrNew}
 

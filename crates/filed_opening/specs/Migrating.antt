@@ -2,10 +2,10 @@
 use Rattle.std.specs.{Prelude.{◌≡◌, ◌⊎◌, ◌+◌, ◌-◌, ℕ, List, [], None, Option, Some, option_map, Result, OnOk, IsErr}, Result.result_ok}
 use Rattle.repo_api.specs.States.{RepoState}
 use Rattle.store_files.specs.{Folders.{Folder, text_of}, Stops.LeavesOnly, declared.name.FileName.TheVariants.Format, declared.store.Store.Ghosts}
+use Rattle.store_files.specs.{declared.fault.StoreFault.StoreFault, declared.fault.StoreFault.TheVariants.{Device, NoMemory}}
 use Rattle.store_files.specs.declared.name.FileName.TheVariants as names
-use Rattle.store_files.specs.declared.fault.StoreFault.{StoreFault}
-use Rattle.store_files.specs.declared.fault.StoreFault.TheVariants.{Device, NoMemory}
-use Rattle.repostore.specs.{Current.count_in, Files.{RevisionFiles, files_in}, Migrating.IsFree, Saving.Stands}
+use Rattle.repostore.specs.{Current.count_in, Files.{RevisionFiles, files_in}, Saving.Stands}
+use Rattle.repository_creation.specs.Migrating.{IsFree}
 use Rattle.fsfs_format.specs.{Formats.format_of, declared.format.Format.TheVariants.Two}
 use Rattle.fsfs_folder.specs.{Current.current_of, Locks.locks_of, declared.current.Current.Current}
 use Rattle.store_access.specs.Keeping.{HasRepository}

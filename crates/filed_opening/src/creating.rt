@@ -2,7 +2,8 @@
 ghost use Rattle.std.specs.Prelude.{◌≡◌, ◌⊎◌, ◌≤◌, ℕ, List, Option, None, Some, IsErr, IsErrOf, OnOk};
 ghost use Rattle.dates.specs.declared.TheConstants.{LAST_MOMENT};
 ghost use Rattle.store_files.specs.Moments.{HasRisen};
-ghost use Rattle.repostore.specs.{Creating.IsFreeWith, Saving.Stands};
+ghost use Rattle.repostore.specs.Saving.{Stands};
+ghost use Rattle.repository_creation.specs.Creating.{IsFreeWith};
 ghost use Rattle.filed_opening.specs.Creating.{LeavesNew, MakesNew, format_in, new_format};
 
 use filed_world::new_filed;
@@ -55,5 +56,5 @@ pub fn create<S: Store>(
 {
     let (filed, files) = new_filed(alloc, uuid, moment, new_format(format))?;
     std::mem::drop(filed);
-    repostore::create(alloc, store, files.opening())
+    repository_creation::create(alloc, store, files.opening())
 }

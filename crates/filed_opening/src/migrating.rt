@@ -2,7 +2,8 @@
 ghost use Rattle.std.specs.Prelude.{◌≡◌, ◌⊎◌, ℕ, List, None, Option, Some, IfErr, IfOk, IsErr, IsErrOf, IsSome, OnOk};
 ghost use Rattle.repo_api.specs.States.{RepoState};
 ghost use Rattle.store_files.specs.{Folders.text_of, Moments.HasRisen};
-ghost use Rattle.repostore.specs.{Creating.IsFreeWith, Current.count_in, Opening.{OnlyReads, Reads}, Reading.IfStoreFindsFaulty, Saving.Stands};
+ghost use Rattle.repostore.specs.{Current.count_in, Opening.{OnlyReads, Reads}, Reading.IfStoreFindsFaulty, Saving.Stands};
+ghost use Rattle.repository_creation.specs.Creating.{IsFreeWith};
 ghost use Rattle.store_access.specs.Keeping.{HasRepository};
 ghost use Rattle.filed_world.specs.Files.{IsOf, filed_content};
 ghost use Rattle.filed_opening.specs.{Creating.format_in, Migrating.{AreSmall, IsHindrance, IsOld, Migrates}};
@@ -13,7 +14,8 @@ use filed_world::{KIND, REPOSITORY_FORMAT, current_file, format_file, locks_file
 use fsfs_folder::Current;
 use fsfs_format::Format;
 use fsfs_lines::FileFault;
-use repostore::{Moved, Progress, copy_files, read_all};
+use repository_creation::{Moved, Progress, copy_files};
+use repostore::read_all;
 use std::alloc::{AllocError, Global};
 use store_access::Loader;
 use store_files::{FileName, Store, StoreFault};

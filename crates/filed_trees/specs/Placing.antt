@@ -1,9 +1,9 @@
 -- Where a node revision is in the files, as it is kept.
-use Rattle.std.specs.{Prelude.{◌==◌, ℕ, Option, Some, None, option_map, if◌then◌else◌}, Arc.arc_value, declared.sync.Arc.Arc}
+use Rattle.std.specs.{Prelude.{◌==◌, ℕ, Option, Some, None, if◌then◌else◌}, Arc.arc_value}
 use Rattle.fsfs_ids.specs.{declared.id.FileId.FileId, declared.id.IdPart.IdPart, declared.place.Place.Place, declared.representation.Representation.Representation}
-use Rattle.filed_trees.specs.declared.placed.{Id.Id, Line.Line, SmallId.SmallId, SmallLine.SmallLine, SmallPart.SmallPart}
-use Rattle.filed_trees.specs.declared.placed.Id.TheVariants as ids
-use Rattle.filed_trees.specs.declared.placed.Line.TheVariants as lines
+use Rattle.filed_trees.specs.declared.placed.{Described.Described, Kept.Kept, SmallId.SmallId, SmallLine.SmallLine, SmallNode.SmallNode}
+use Rattle.filed_trees.specs.declared.placed.{SmallPart.SmallPart, Whole.Whole}
+use Rattle.filed_trees.specs.declared.placed.Kept.TheVariants as kinds
 
 -- where a node revision is in the files, and what files alone have of it
 pub record PlacedValue : Type 0 where
@@ -28,29 +28,39 @@ unpacked_id id = record {
   offset = id.offset;
 }
 
-abbrev pub id_in : Id → FileId
-id_in (ids.Small id) = unpacked_id id
-id_in (ids.Large id) = arc_value id
-
-abbrev pub unpacked_line : SmallLine → Representation
-unpacked_line line = record {
+-- the line that small numbers stand for, if any
+abbrev pub line_in : SmallLine → Option Representation
+line_in line = if line.revision == 4294967295 then None else Some (record {
   revision = line.revision;
   offset = line.offset;
   length = line.length;
   size = line.size;
   digest = line.digest;
+})
+
+-- what small numbers stand for, with the rest
+abbrev pub small_value : SmallNode → Option Representation → Place → PlacedValue
+small_value node properties copyroot = record {
+  id = unpacked_id node.id;
+  count = node.count;
+  text = line_in node.text;
+  properties = properties;
+  copyroot = copyroot;
 }
 
-abbrev pub line_in : Line → Option Representation
-line_in lines.None = None
-line_in (lines.Small line) = Some (unpacked_line line)
-line_in (lines.Large line) = Some (arc_value line)
+abbrev pub described_value : SmallNode → Described → PlacedValue
+described_value node described = small_value node (Some described.properties) (arc_value described.copyroot)
 
-abbrev pub placed_value : {Y Z : Type 0} → Id → ℕ → Line → Option (Arc Representation Y) → Arc Place Z → PlacedValue
-placed_value id count text properties copyroot = record {
-  id = id_in id;
-  count = count;
-  text = line_in text;
-  properties = option_map arc_value properties;
-  copyroot = arc_value copyroot;
+abbrev pub whole_value : Whole → PlacedValue
+whole_value whole = record {
+  id = whole.id;
+  count = whole.count;
+  text = whole.text;
+  properties = whole.properties;
+  copyroot = arc_value whole.copyroot;
 }
+
+abbrev pub placed_value : Kept → PlacedValue
+placed_value (kinds.Plain node copyroot) = small_value node None (arc_value copyroot)
+placed_value (kinds.Described node described) = described_value node (arc_value described)
+placed_value (kinds.Large whole) = whole_value (arc_value whole)

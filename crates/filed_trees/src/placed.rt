@@ -1,6 +1,6 @@
 //! Where one node revision stands in files, in few bytes.
-ghost use Rattle.std.specs.{Prelude.{◌≡◌, IfOk, IfSome, option_map}, Arc.arc_value};
-ghost use Rattle.filed_trees.specs.Placing.{PlacedValue, id_in, line_in, placed_value, unpacked_id, unpacked_line, unpacked_part};
+ghost use Rattle.std.specs.{Prelude.{◌≡◌, IfOk, IfSome, Some}, Arc.arc_value};
+ghost use Rattle.filed_trees.specs.Placing.{PlacedValue, line_in, placed_value, small_value, unpacked_id, unpacked_part};
 
 use fsfs_ids::{FileId, IdPart, Place, Representation};
 use std::alloc::{AllocError, Global};
@@ -17,7 +17,7 @@ struct SmallPart {
     revision: u32,
 }
 
-/// A representation in small numbers.
+/// A representation in small numbers; the revision is the greatest where there is none.
 #[derive(Clone, Copy)]
 struct SmallLine {
     revision: u32,
@@ -25,14 +25,6 @@ struct SmallLine {
     length: u32,
     size: u32,
     digest: [u8; 16],
-}
-
-/// Which text or properties a node revision names.
-#[derive(Drop)]
-enum Line {
-    None,
-    Small(SmallLine),
-    Large(Arc<Representation>),
 }
 
 /// An id whose numbers are small.
@@ -44,39 +36,55 @@ struct SmallId {
     offset: u32,
 }
 
-/// An id of a node revision.
+/// What most node revisions have, in small numbers.
+#[derive(Clone, Copy)]
+struct SmallNode {
+    id: SmallId,
+    count: u32,
+    text: SmallLine,
+}
+
+/// What is kept apart of a node revision with properties.
 #[derive(Drop)]
-enum Id {
-    Small(SmallId),
-    Large(Arc<FileId>),
+struct Described {
+    properties: Representation,
+    copyroot: Arc<Place>,
+}
+
+/// A node revision with a number that is not small.
+#[derive(Drop)]
+struct Whole {
+    id: FileId,
+    count: u64,
+    text: Option<Representation>,
+    properties: Option<Representation>,
+    copyroot: Arc<Place>,
+}
+
+/// A node revision as it is kept: in small numbers without properties, or with them, or with a larger number.
+#[derive(Drop)]
+enum Kept {
+    Plain(SmallNode, Arc<Place>),
+    Described(SmallNode, Arc<Described>),
+    Large(Arc<Whole>),
 }
 
 /// Says where a node revision stands in the files, and keeps what files alone have of it. Small numbers take few bytes;
-/// an id or a representation with a larger one is kept apart.
+/// a node revision with a larger one is kept apart, and so are the properties of one that has any.
 pub struct Placed {
-    id: Id,
-    count: u64,
-    text: Line,
-    properties: Option<Arc<Representation>>,
-    copyroot: Arc<Place>,
+    kept: Kept,
 }
 
 impl Drop for Placed {
     fn drop(self) {
-        let Placed {
-            id: _,
-            count: _,
-            text: _,
-            properties: _,
-            copyroot: _,
-        } = self;
+        let Placed { kept: _ } = self;
     }
 }
 
 impl Model for Placed {
     ghost Value = { PlacedValue };
 
-    ghost view = { λ p. placed_value p.id p.count p.text p.properties p.copyroot };
+    ghost view = { λ p. placed_value p.kept };
 }
 
 /// Gives the number where it is small.
@@ -135,20 +143,13 @@ fn small_id(id: FileId) -> Option<SmallId>
     })
 }
 
-/// Keeps an id.
-fn kept_id(alloc: Global, id: FileId) -> Result<Id, AllocError>
-    ensures { IfOk result (λ kept. id_in kept ≡ id) }
-{
-    match small_id(id) {
-        Some(small) => Ok(Id::Small(small)),
-        None => Ok(Id::Large(Arc::new(alloc, id)?)),
-    }
-}
-
 /// Gives a line in small numbers, if they are.
 fn small_line(line: Representation) -> Option<SmallLine>
-    ensures { IfSome result (λ l. unpacked_line l ≡ line) }
+    ensures { IfSome result (λ l. line_in l ≡ Some line) }
 {
+    if line.revision == NO_REVISION {
+        return None;
+    }
     Some(SmallLine {
         revision: line.revision,
         offset: small(line.offset)?,
@@ -158,30 +159,82 @@ fn small_line(line: Representation) -> Option<SmallLine>
     })
 }
 
-/// Keeps the line of a text.
-fn kept_line(alloc: Global, line: Option<Representation>) -> Result<Line, AllocError>
-    ensures { IfOk result (λ kept. line_in kept ≡ line) }
+/// Gives the line of a text in small numbers, if they are, or that there is none.
+fn small_text(text: Option<Representation>) -> Option<SmallLine>
+    ensures { IfSome result (λ l. line_in l ≡ text) }
 {
-    let Some(line) = line else {
-        return Ok(Line::None);
-    };
-    match small_line(line) {
-        Some(small) => Ok(Line::Small(small)),
-        None => Ok(Line::Large(Arc::new(alloc, line)?)),
+    match text {
+        Some(line) => small_line(line),
+        None => Some(SmallLine {
+            revision: NO_REVISION,
+            offset: 0,
+            length: 0,
+            size: 0,
+            digest: [0; 16],
+        }),
     }
 }
 
-/// Keeps the line of properties, which most node revisions have not.
-fn kept_apart(
-    alloc: Global,
-    line: Option<Representation>,
-) -> Result<Option<Arc<Representation>>, AllocError>
-    ensures { IfOk result (λ kept. option_map (λ a. arc_value a) kept ≡ line) }
+/// Gives the line in small numbers, if there is one.
+fn line_of(line: SmallLine) -> Option<Representation>
+    ensures { result ≡ line_in line }
 {
-    match line {
-        None => Ok(None),
-        Some(line) => Ok(Some(Arc::new(alloc, line)?)),
+    if line.revision == NO_REVISION {
+        return None;
     }
+    let digest = line.digest;
+    Some(Representation {
+        revision: line.revision,
+        offset: line.offset as u64,
+        length: line.length as u64,
+        size: line.size as u64,
+        digest,
+    })
+}
+
+/// Gives an id with small numbers.
+fn id_of(id: SmallId) -> FileId
+    ensures { result ≡ unpacked_id id }
+{
+    FileId {
+        node: part_of(id.node),
+        copy: part_of(id.copy),
+        revision: id.revision,
+        offset: id.offset as u64,
+    }
+}
+
+/// Gives what most node revisions have in small numbers, if they are.
+fn small_node(id: FileId, count: u64, text: Option<Representation>) -> Option<SmallNode>
+    ensures id { IfSome result (λ node. unpacked_id node.id ≡ id) }
+    ensures count { IfSome result (λ node. node.count ≡ count) }
+    ensures text { IfSome result (λ node. line_in node.text ≡ text) }
+{
+    Some(SmallNode {
+        id: small_id(id)?,
+        count: small(count)?,
+        text: small_text(text)?,
+    })
+}
+
+/// Keeps a node revision whose numbers are small.
+fn kept_small(
+    alloc: Global,
+    node: SmallNode,
+    properties: Option<Representation>,
+    copyroot: Arc<Place>,
+) -> Result<Kept, AllocError>
+    ensures { IfOk result (λ kept. placed_value kept
+        ≡ small_value node properties (arc_value copyroot)) }
+{
+    let Some(properties) = properties else {
+        return Ok(Kept::Plain(node, copyroot));
+    };
+    let described = Described {
+        properties,
+        copyroot,
+    };
+    Ok(Kept::Described(node, Arc::new(alloc, described)?))
 }
 
 impl Placed {
@@ -202,15 +255,19 @@ impl Placed {
           copyroot = arc_value copyroot;
         }) }
     {
-        let id = kept_id(alloc, id)?;
-        let text = kept_line(alloc, text)?;
-        let properties = kept_apart(alloc, properties)?;
-        Ok(Placed {
+        if let Some(node) = small_node(id, count, text) {
+            let kept = kept_small(alloc, node, properties, copyroot)?;
+            return Ok(Placed { kept });
+        }
+        let whole = Whole {
             id,
             count,
             text,
             properties,
             copyroot,
+        };
+        Ok(Placed {
+            kept: Kept::Large(Arc::new(alloc, whole)?),
         })
     }
 
@@ -218,14 +275,9 @@ impl Placed {
     pub fn id(&self) -> FileId
         ensures { result ≡ self.now.id }
     {
-        match &self.id {
-            Id::Small(small) => FileId {
-                node: part_of(small.node),
-                copy: part_of(small.copy),
-                revision: small.revision,
-                offset: small.offset as u64,
-            },
-            Id::Large(id) => **id,
+        match &self.kept {
+            Kept::Plain(node, _) | Kept::Described(node, _) => id_of(node.id),
+            Kept::Large(whole) => whole.id,
         }
     }
 
@@ -233,9 +285,9 @@ impl Placed {
     pub fn offset(&self) -> u64
         ensures { result ≡ self.now.id.offset }
     {
-        match &self.id {
-            Id::Small(small) => small.offset as u64,
-            Id::Large(id) => id.offset,
+        match &self.kept {
+            Kept::Plain(node, _) | Kept::Described(node, _) => node.id.offset as u64,
+            Kept::Large(whole) => whole.id.offset,
         }
     }
 
@@ -243,23 +295,19 @@ impl Placed {
     pub fn count(&self) -> u64
         ensures { result ≡ self.now.count }
     {
-        self.count
+        match &self.kept {
+            Kept::Plain(node, _) | Kept::Described(node, _) => node.count as u64,
+            Kept::Large(whole) => whole.count,
+        }
     }
 
     /// Gives the line of the text, or of the entries.
     pub fn text(&self) -> Option<Representation>
         ensures { result ≡ self.now.text }
     {
-        match &self.text {
-            Line::None => None,
-            Line::Small(line) => Some(Representation {
-                revision: line.revision,
-                offset: line.offset as u64,
-                length: line.length as u64,
-                size: line.size as u64,
-                digest: line.digest,
-            }),
-            Line::Large(line) => Some(**line),
+        match &self.kept {
+            Kept::Plain(node, _) | Kept::Described(node, _) => line_of(node.text),
+            Kept::Large(whole) => whole.text,
         }
     }
 
@@ -267,9 +315,10 @@ impl Placed {
     pub fn properties(&self) -> Option<Representation>
         ensures { result ≡ self.now.properties }
     {
-        match &self.properties {
-            None => None,
-            Some(line) => Some(**line),
+        match &self.kept {
+            Kept::Plain(_, _) => None,
+            Kept::Described(_, described) => Some(described.properties),
+            Kept::Large(whole) => whole.properties,
         }
     }
 
@@ -277,6 +326,10 @@ impl Placed {
     pub fn copyroot(&self) -> &Arc<Place>
         ensures { arc_value result.now ≡ self.now.copyroot }
     {
-        &self.copyroot
+        match &self.kept {
+            Kept::Plain(_, copyroot) => copyroot,
+            Kept::Described(_, described) => &described.copyroot,
+            Kept::Large(whole) => &whole.copyroot,
+        }
     }
 }

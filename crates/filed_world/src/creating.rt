@@ -2,7 +2,8 @@
 ghost use Rattle.std.specs.{Prelude.{◌≡◌, ◌≤◌, List, ℕ, IfOk, None, Some}, Result.result_ok};
 ghost use Rattle.dates.specs.{Dates.IsDateText, declared.TheConstants.LAST_MOMENT};
 ghost use Rattle.repo_api.specs.Opening.{new_repository};
-ghost use Rattle.repostore.specs.{Creating.opening_files, Current.count_in};
+ghost use Rattle.repostore.specs.Current.{count_in};
+ghost use Rattle.repository_creation.specs.Creating.{opening_files};
 ghost use Rattle.fsfs_format.specs.Formats.{format_of};
 ghost use Rattle.fsfs_folder.specs.Identity.{uuid_of};
 ghost use Rattle.filed_world.specs.{Files.{IsOf, filed_content}, Creating.{SayNew, ids_in, new_files}, Reading.{HasReadFirst, IsNextOf}};
@@ -15,7 +16,7 @@ use fsfs_folder::{Current, NextIds, append_uuid, read_uuid};
 use fsfs_format::Format;
 use pvec::PVec;
 use repo_api::Repository;
-use repostore::Opening;
+use repository_creation::Opening;
 use std::alloc::{AllocError, Global};
 use world::World;
 

@@ -3,7 +3,7 @@ use Rattle.std.proofs.Common.{◌≡◌, ◌-◌, ℕ, length, ap, ◌∙◌}
 use Rattle.std.specs.FinMap.{get, empty, get-empty}
 use Rattle.svnpath.specs.Paths.{path_cmp, PathValue}
 use Rattle.repo_api.specs.{Edits.begun, States.{ChangeMap, IsBegun, LockMap, tree_at, tree_of, TreeMap}}
-use Rattle.flatrepo.specs.{Contents.{flat_state, revisions_of}, declared.flat_content.FlatContent.FlatContent, Open.txn_of, Whole.state_of}
+use Rattle.flat_commits.specs.{Contents.{flat_state, revisions_of}, declared.flat_content.FlatContent.FlatContent, Open.txn_of, Whole.state_of}
 
 pub begun_is : (held shown : FlatContent) (locks : LockMap) (base : ℕ) (found tree : TreeMap) (changes : ChangeMap)
     → shown ≡ held → base ≡ length (revisions_of held) - 1 → found ≡ tree_at (flat_state held) base

@@ -2,7 +2,7 @@
 use Rattle.std.specs.Prelude.{Result}
 use Rattle.repo_api.specs.{Edits.edited, States.{TreeMap, trees_in}, declared.edit.EditOp.EditOp}
 use Rattle.flat_trees.specs.Changing.{Applies}
-use Rattle.flatrepo.specs.{Contents.revisions_of, declared.flat_content.FlatContent.FlatContent}
+use Rattle.flat_commits.specs.{Contents.revisions_of, declared.flat_content.FlatContent.FlatContent}
 
 -- an edit is applied to the tree, over the trees of the revisions; or, where there is an error, the tree stays as it was
 abbrev pub EditsTree : {T E : Type 0} → Result T E → FlatContent → TreeMap → EditOp → TreeMap

@@ -1,17 +1,7 @@
--- What the values of this crate stand for.
-use Rattle.repo_api.specs.States.{LockMap, RepoState, TxnState}
-use Rattle.flatrepo.specs.{Contents.flat_state, declared.flat_content.FlatContent.FlatContent, Open.txn_of, declared.flat_repo.FlatRepo.FlatRepo}
-use Rattle.flatrepo.specs.declared.flat_txn.FlatTxn.{FlatTxn}
-
-abbrev pub with_locks : RepoState → LockMap → RepoState
-with_locks c locks = record c { locks = locks }
-
--- what is held, with these locks
-abbrev pub state_of : FlatContent → LockMap → RepoState
-state_of c locks = with_locks (flat_state c) locks
+-- What a repository of this crate stands for.
+use Rattle.repo_api.specs.States.{RepoState}
+use Rattle.flat_commits.specs.Whole.{state_of}
+use Rattle.flatrepo.specs.declared.flat_repo.FlatRepo.{FlatRepo}
 
 abbrev pub repo_content : FlatRepo → RepoState
 repo_content r = state_of r.content.value r.locks.value
-
-abbrev pub txn_state_of : FlatTxn → TxnState
-txn_state_of t = txn_of t.shown.value t.base t.tree t.changes

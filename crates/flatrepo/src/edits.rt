@@ -1,9 +1,10 @@
 //! The edits of a transaction's tree. An edit that lacks memory changes nothing.
 ghost use Rattle.repo_api.specs.{Edits.copied, States.trees_in};
 ghost use Rattle.flat_trees.specs.Changing.{Applies};
-ghost use Rattle.flatrepo.specs.{Contents.revisions_of, Edits.EditsTree};
+ghost use Rattle.flat_commits.specs.Contents.{revisions_of};
+ghost use Rattle.flatrepo.specs.Edits.{EditsTree};
 
-use crate::flat_content::FlatContent;
+use flat_commits::FlatContent;
 use flat_trees::FlatTree;
 use repo_api::{Content, EditOp, FileText, Source};
 use std::alloc::{AllocError, Global};

@@ -1,5 +1,5 @@
 //! What a repository in memory has.
-use crate::flat_content::FlatContent;
+use flat_commits::FlatContent;
 use pathlocks::Locks;
 use std::alloc::Global;
 use std::sync::Arc;

@@ -2,11 +2,7 @@
 #![tactic(auto)]
 
 mod edits;
-mod flat_content;
 mod flat_repo;
-mod flat_txn;
 mod repository;
-mod revisions;
 
 pub use flat_repo::FlatRepo;
-pub use flat_txn::FlatTxn;

@@ -1,27 +1,25 @@
 //! The repository and its transactions.
-ghost use Rattle.std.specs.Prelude.{◌≡◌, ◌≤◌, ◌<◌, List, ℕ, length, IfOk, OnOk, OnErr};
+ghost use Rattle.std.specs.Prelude.{◌≡◌, ◌≤◌, List, ℕ, IfOk, OnOk, OnErr};
 ghost use Rattle.dates.specs.{Dates.IsDateText, declared.TheConstants.LAST_MOMENT};
-ghost use Rattle.repo_api.specs.{Accepted.IsJudged, Commits.{commit_refusal, committed, IsConflictOf, IsRefusedAt, revision_properties}};
-ghost use Rattle.repo_api.specs.{Kinds.{created_at, kind_at}, Locking.{check_refusal, refusing_path, with_lock}, MergedMaps.{has_conflict, merged_map}};
-ghost use Rattle.repo_api.specs.Opening.{new_repository};
-ghost use Rattle.repo_api.specs.{RevisionProperties.{property_refusal, with_changed_property}, RightEdits.IsRightEdit};
-ghost use Rattle.repo_api.specs.States.{EditsTxn, IsBeginning, Notes, tree_at, tree_of, trees_in, youngest};
-ghost use Rattle.flatrepo.specs.{Contents.{flat_state, HasRevision, revisions_of}, Edits.EditsTree, Whole.{state_of, repo_content, txn_state_of}};
+ghost use Rattle.repo_api.specs.{Commits.{IsConflictOf, IsRefusedAt}, Kinds.{created_at, kind_at}, Locking.{refusing_path, with_lock}};
+ghost use Rattle.repo_api.specs.{Opening.new_repository, RevisionProperties.{property_refusal, with_changed_property}, RightEdits.IsRightEdit};
+ghost use Rattle.repo_api.specs.States.{EditsTxn, IsBeginning, Notes, tree_of, trees_in, youngest};
+ghost use Rattle.flat_commits.specs.{Contents.{flat_state, revisions_of}, Whole.{state_of, txn_state_of}};
+ghost use Rattle.flatrepo.specs.{Edits.EditsTree, Whole.repo_content};
 
 use crate::edits::edit_tree;
-use crate::flat_content::{FlatContent, FlatRevision};
 use crate::flat_repo::FlatRepo;
-use crate::flat_txn::FlatTxn;
 use byte_string::ByteString;
 use dates::date_bytes;
+use flat_commits::{FlatContent, FlatTxn, commit};
 use flat_trees::{FlatTree, created, kind, properties, text};
 use pathlocks::{Locks, lock_shared, put_shared, release_shared, unlock_shared};
 use refusals::Refusal;
 use repo_api::{
     Change, ChangeFault, CommitAsk, EditOp, FileText, Lock, LockAsk, LockTokens, NodeKind,
-    Properties, PropertyAsk, REVISION_LIMIT, Repository, UnlockAsk,
+    Properties, PropertyAsk, Repository, UnlockAsk,
 };
-use revision_data::{TxnChanges, current_refusal, property_refusal, revision_properties};
+use revision_data::{TxnChanges, current_refusal, property_refusal};
 use std::alloc::{AllocError, Global};
 use std::mem::drop;
 use std::sync::Arc;
@@ -56,7 +54,8 @@ impl FlatRepo {
 }
 
 impl Repository for FlatRepo {
-    ghost use Rattle.flatrepo.specs.Whole.{repo_content, txn_state_of};
+    ghost use Rattle.flatrepo.specs.Whole.{repo_content};
+    ghost use Rattle.flat_commits.specs.Whole.{txn_state_of};
 
     type Txn = FlatTxn;
 
@@ -163,13 +162,7 @@ impl Repository for FlatRepo {
     }
 
     fn commit(&mut self, ask: CommitAsk, txn: FlatTxn) -> Result<u64, ChangeFault> {
-        if let Err(fault) = judge(self.alloc, &self.content, &self.locks, &ask, &txn) {
-            drop((ask, txn));
-            return Err(fault);
-        }
-        let number = self.content.count();
-        self.content = with_commit(self.alloc, &self.content, ask, txn)?;
-        Ok(number)
+        commit(self.alloc, &mut self.content, &self.locks, ask, txn)
     }
 
     fn lock(&mut self, ask: LockAsk) -> Result<(), ChangeFault> {
@@ -285,42 +278,6 @@ fn edit_parts(
     }
 }
 
-/// Checks whether the commit is accepted: there is no conflict, no lock in its way, and a number left.
-fn judge(
-    alloc: Global,
-    content: &FlatContent,
-    locks: &Locks,
-    ask: &CommitAsk,
-    txn: &FlatTxn,
-) -> Result<(), ChangeFault>
-    ensures { IsJudged result (commit_refusal (state_of content.now locks.now) ask.now
-        (txn_state_of txn.now)) }
-{
-    let (base, youngest) = (content.tree(txn.base), content.tree(content.youngest()));
-    if txn.tree.has_conflict(base, youngest) {
-        return Err(ChangeFault::Refused(Refusal::Conflict));
-    }
-    check_locks(alloc, locks, &txn.changes, ask)?;
-    if content.count() >= REVISION_LIMIT {
-        return Err(ChangeFault::Refused(Refusal::NotSupported));
-    }
-    Ok(())
-}
-
-/// Checks whether the locks in the way of the changes let the commit pass.
-fn check_locks(
-    alloc: Global,
-    locks: &Locks,
-    changes: &TxnChanges,
-    ask: &CommitAsk,
-) -> Result<(), ChangeFault>
-    ensures { IsJudged result (check_refusal locks.now changes.now ask.now.author
-        ask.now.tokens) }
-{
-    let tokens = ask.tokens.as_slice();
-    locks.check(alloc, changes.as_map(), ask.author.as_ref(), tokens)
-}
-
 /// Finds a path at which a commit is refused, if it is at one: a path in conflict, or where none is, that of the first
 /// lock in its way that refuses.
 fn refused_at(
@@ -361,53 +318,4 @@ fn refusing_path(
 {
     let tokens = ask.tokens.as_slice();
     locks.refusing_path(alloc, changes.as_map(), ask.author.as_ref(), tokens)
-}
-
-/// Makes the tree of the revision that a commit of this tree, from this base, adds.
-fn next_tree(
-    alloc: Global,
-    content: &FlatContent,
-    base: u64,
-    tree: &FlatTree,
-) -> Result<FlatTree, AllocError>
-    requires { length (revisions_of content.now) < REVISION_LIMIT }
-    ensures { IfOk result (λ t. t ≡ merged_map (length (revisions_of content.now))
-        (tree_at (flat_state content.now) base) tree.now
-        (tree_at (flat_state content.now) (youngest (flat_state content.now)))) }
-{
-    let revision = content.count() as u32;
-    let youngest = content.tree(content.youngest());
-    tree.merged(alloc, revision, content.tree(base), youngest)
-}
-
-/// Makes what is held after the commit.
-fn with_commit(
-    alloc: Global,
-    content: &FlatContent,
-    ask: CommitAsk,
-    txn: FlatTxn,
-) -> Result<Arc<FlatContent>, AllocError>
-    requires { length (revisions_of content.now) < REVISION_LIMIT }
-    ensures { IfOk result (λ c. flat_state c.value
-        ≡ committed (flat_state content.now) ask (txn_state_of txn)) }
-{
-    let tree = next_tree(alloc, content, txn.base, &txn.tree)?;
-    with_revision(alloc, content, ask, tree, txn.changes)
-}
-
-/// Makes what is held after a revision with this tree and these changes, and with the properties that are asked for.
-fn with_revision(
-    alloc: Global,
-    content: &FlatContent,
-    ask: CommitAsk,
-    tree: FlatTree,
-    changes: TxnChanges,
-) -> Result<Arc<FlatContent>, AllocError>
-    ensures { IfOk result (λ c. HasRevision content.now c.value
-        (record { tree = tree; changes = changes }) (revision_properties ask)) }
-{
-    let changes = changes.into_list(alloc)?;
-    let properties = revision_properties(alloc, ask)?;
-    let next = content.with_revision(alloc, FlatRevision { tree, changes }, properties)?;
-    Ok(Arc::new(alloc, next)?)
 }

@@ -3,7 +3,7 @@ use crate::folders::{DATE, EMPTY, FILE, THREE, TWO, UUID, folder, has};
 use filed_opening::{check_free, copy_repository, judged, open};
 use fsfs_lines::FileFault;
 use repo_api::Repository;
-use repostore::Progress;
+use repository_creation::Progress;
 use std::alloc::Global;
 use std::test::Fail;
 use store_files::{FileName, FuseStore, Left, MemoryStore, Store, StoreFault};

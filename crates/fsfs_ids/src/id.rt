@@ -1,5 +1,6 @@
 //! Ids of node revisions.
-ghost use Rattle.std.specs.Prelude.{◌≡◌, ◌++◌, OnOk};
+ghost use Rattle.std.specs.{Prelude.{◌≡◌, ◌<◌, ◌++◌, map, OnOk}, Int.Digits.digits_of};
+ghost use Rattle.fsfs_lines.specs.Numerals.{glyph, numeral};
 ghost use Rattle.fsfs_ids.specs.Ids.{part_text, id_text, part_of, id_of};
 
 use fsfs_lines::{
@@ -24,11 +25,46 @@ pub struct FileId {
     pub offset: u64,
 }
 
+/// Gives the digit in base 36 that stands for a number.
+fn glyph(digit: u8) -> u8
+    requires { digit < 36 }
+    ensures { result ≡ glyph digit }
+{
+    if digit < 10 {
+        b'0' + digit
+    } else {
+        b'a' - 10 + digit
+    }
+}
+
+/// Appends the digits of a number in base 36, none for 0.
+fn append_digits(out: &mut Vec<u8>, n: u64) -> Result<(), AllocError>
+    ensures { OnOk result (out.new.items ≡ out.old.items ++ map glyph (digits_of 36 n)) }
+{
+    if n == 0 {
+        return Ok(());
+    }
+    append_digits(out, n / 36)?;
+    out.push(glyph((n % 36) as u8))?;
+    Ok(())
+}
+
+/// Appends a number in base 36. One of 64 bits is divided as such, which takes less time.
+#[tactic(auto, unfolding(fsfs_lines::specs::Numerals::numeral))]
+fn append_base_36(out: &mut Vec<u8>, n: u128) -> Result<(), AllocError>
+    ensures { OnOk result (out.new.items ≡ out.old.items ++ numeral 36 n) }
+{
+    if n == 0 || n > u64::MAX as u128 {
+        return append_numeral(out, 36, n);
+    }
+    append_digits(out, n as u64)
+}
+
 /// Appends a node id or a copy id: its number in base 36, and behind `-` its revision.
 fn append_part(out: &mut Vec<u8>, part: IdPart) -> Result<(), AllocError>
     ensures { OnOk result (out.new.items ≡ out.old.items ++ part_text part) }
 {
-    append_numeral(out, 36, part.number)?;
+    append_base_36(out, part.number)?;
     match part.revision {
         None => Ok(()),
         Some(revision) => {

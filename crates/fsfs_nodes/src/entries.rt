@@ -49,11 +49,14 @@ pub fn parse_kind(bytes: &[u8]) -> Option<EntryKind>
     }
 }
 
+/// For so many bytes memory is taken at once for the text of an entry, and for more where it is longer.
+const ENTRY_LENGTH: usize = 48;
+
 /// Makes the text of an entry: `<kind> <id>`.
 fn entry_text(alloc: Global, entry: &DirectoryEntry) -> Result<Vec<u8>, AllocError>
     ensures { IfOk result (λ v. v.items ≡ entry_text entry.now) }
 {
-    let mut text = Vec::new(alloc);
+    let mut text = Vec::with_capacity(alloc, ENTRY_LENGTH)?;
     append_kind(&mut text, entry.kind)?;
     text.push(b' ')?;
     append_id(&mut text, entry.id)?;

@@ -34,11 +34,10 @@ impl From<AllocError> for CommitFault {
 
 impl Held {
     /// Makes the tree of a transaction that began from this base, merged with the youngest revision.
-    pub fn merged(&self, alloc: Global, base: u64, tree: &TxnTree) -> Result<TxnTree, CommitFault>
-        requires told { IsTold (trees_of self.now.nodes base) (txn_tree self.now.nodes tree.now) }
-        requires standing { IsSound (node_at self.now.nodes) (root_at self.now.nodes base)
-            tree.now }
-        ensures { (m : TreeMap) → IsMapOf (txn_tree self.now.nodes tree.now) m
+    pub fn merged(&self, alloc: Global, base: u64, tree: TxnTree) -> Result<TxnTree, CommitFault>
+        requires told { IsTold (trees_of self.now.nodes base) (txn_tree self.now.nodes tree) }
+        requires standing { IsSound (node_at self.now.nodes) (root_at self.now.nodes base) tree }
+        ensures { (m : TreeMap) → IsMapOf (txn_tree self.now.nodes tree) m
             → IsMerge result self.now base m }
     {
         match merge(alloc, &self.nodes, base, tree, self.youngest()) {
@@ -53,12 +52,11 @@ impl Held {
         &self,
         alloc: Global,
         base: u64,
-        tree: &TxnTree,
+        tree: TxnTree,
     ) -> Result<Option<Path>, AllocError>
-        requires told { IsTold (trees_of self.now.nodes base) (txn_tree self.now.nodes tree.now) }
-        requires standing { IsSound (node_at self.now.nodes) (root_at self.now.nodes base)
-            tree.now }
-        ensures { (m : TreeMap) → IsMapOf (txn_tree self.now.nodes tree.now) m
+        requires told { IsTold (trees_of self.now.nodes base) (txn_tree self.now.nodes tree) }
+        requires standing { IsSound (node_at self.now.nodes) (root_at self.now.nodes base) tree }
+        ensures { (m : TreeMap) → IsMapOf (txn_tree self.now.nodes tree) m
             → IfOk result (IsConflictIn self.now base m) }
     {
         let youngest = self.youngest();

@@ -377,25 +377,26 @@ abbrev is_nobody : Option Mechanism → Bool
 is_nobody None = false
 is_nobody (Some mechanisms.Anonymous) = true
 is_nobody (Some mechanisms.CramMd5) = false
+is_nobody (Some mechanisms.External) = false
 
 user_or_none : (b : Bool) → is_nobody (if b then Some mechanisms.CramMd5 else None) ≡ false
 user_or_none true = refl
 user_or_none false = refl
 
 -- where there are users, nobody's login makes no command go on that waits for one
-no_users : (users : Option (List Login)) (command : MainCommand) (name : List ℕ)
-    → chosen (offer users (Some command)) name ≡ Some mechanisms.Anonymous → users ≡ None
-no_users None command name is = refl
-no_users (Some users) command name is =
+no_users : (account : Option (List ℕ)) (users : Option (List Login)) (command : MainCommand) (name : List ℕ)
+    → chosen (offer account users (Some command)) name ≡ Some mechanisms.Anonymous → users ≡ None
+no_users account None command name is = refl
+no_users account (Some users) command name is =
     absurd (true≢false (sym (ap is_nobody is) ∙ user_or_none (is_name name (codes "CRAM-MD5"))))
 
 -- what nobody's login makes go on is asked for where there are no users
 of_nobody : (s : Settings) (env : Env) (login : OpenLogin) (name : List ℕ) (e : Accepted)
-    → (chosen (offer s.users login.waiting) name ≡ Some mechanisms.Anonymous) × IsWaiting s.revprops env login.client login.waiting e
+    → (chosen (offer s.account s.users login.waiting) name ≡ Some mechanisms.Anonymous) × IsWaiting s.revprops env login.client login.waiting e
     → (s.users ≡ None) × IsWaiting s.revprops env login.client login.waiting e
 of_nobody s env login name e (chose, waiting) =
     let (command, waits, asked) = waiting in (
-      no_users s.users command name (subst (λ (w : Option MainCommand). chosen (offer s.users w) name ≡ Some mechanisms.Anonymous) waits chose),
+      no_users s.account s.users command name (subst (λ (w : Option MainCommand). chosen (offer s.account s.users w) name ≡ Some mechanisms.Anonymous) waits chose),
       waiting,
     )
 
@@ -407,14 +408,15 @@ does_choice halted s env c login (Some mechanisms.Anonymous) a step =
     does_as (IsWaiting s.revprops env login.client login.waiting) (λ e. (Some mechanisms.Anonymous ≡ Some mechanisms.Anonymous) × IsWaiting s.revprops env login.client login.waiting e) a
     (λ e one. (refl, one)) (does_logged_in halted s env c login.client login.waiting a step)
 does_choice halted s env c login (Some mechanisms.CramMd5) a is = quiet a _ is (refl, refl, refl)
+does_choice halted s env c login (Some mechanisms.External) a is = quiet a _ is (refl, refl, refl)
 
 does_login : (halted : Bool) (s : Settings) (env : Env) (c : RepoState) (login : OpenLogin) (t : ItemValue) (r : Result AuthResponse CommandFault) (a : Answer)
     → LoginStep s env login r halted c a → Does (IsAsked s env (LoggingIn login) (Whole t)) s.revprops halted env c a
 does_login halted s env c login t (Ok r) a step =
-    does_as (λ e. (chosen (offer s.users login.waiting) r.mechanism ≡ Some mechanisms.Anonymous) × IsWaiting s.revprops env login.client login.waiting e)
+    does_as (λ e. (chosen (offer s.account s.users login.waiting) r.mechanism ≡ Some mechanisms.Anonymous) × IsWaiting s.revprops env login.client login.waiting e)
     (IsAsked s env (LoggingIn login) (Whole t)) a
     (of_nobody s env login r.mechanism)
-    (does_choice halted s env c login (chosen (offer s.users login.waiting) r.mechanism) a step)
+    (does_choice halted s env c login (chosen (offer s.account s.users login.waiting) r.mechanism) a step)
 does_login halted s env c login t (Err fault) a is = quiet a _ is (refl, refl, refl)
 
 does_challenge : (halted : Bool) (s : Settings) (env : Env) (c : RepoState) (pending : OpenChallenge) (t : ItemValue) (text : Option (List ℕ)) (a : Answer)

@@ -4,15 +4,15 @@ ghost use Rattle.published.specs.{Authors.roll, Edition.edition_after, Events.{K
 ghost use Rattle.archives.specs.Archives.{IsNext};
 ghost use Rattle.keepers.specs.{Settling.SettlesTo, Standing.{Begins, CanBegin, HappensAt, IsOpened, IsSteady, Meets, StopLeaves}};
 
-use crate::seat::Seat;
 use archives::{Archive, Publisher, SaveFault};
 use left_right::Absorb;
 use published::{
     AskedChange, Authors, Carries, Desk, Front, Naming, NewHistory, Published, Sets, WholeHistory,
 };
 use repo_api::{ChangeFault, Repository};
+use seats::Seat;
 use std::alloc::{AllocError, Global};
-use std::marker::{Model, PhantomData};
+use std::marker::Model;
 use std::mem::{self, drop};
 use std::sync::Wait;
 
@@ -112,11 +112,7 @@ fn seat_at<
 {
     let reader = desk.reader()?;
     match authors.give() {
-        Some(author) => Ok(Seat {
-            reader: Some(reader),
-            author,
-            of: PhantomData,
-        }),
+        Some(author) => Ok(Seat::new(reader, author)),
         None => {
             drop(reader);
             Err(AllocError)

@@ -209,10 +209,11 @@ quiet_choice : (s : Settings) (halted : Bool) (env : Env) (c : RepoState) (login
 quiet_choice s halted env c login None a is = quiet_is s a _ is (asking s env login _)
 quiet_choice s halted env c login (Some mechanisms.Anonymous) a step = quiet_logged_in s halted env c login.client login.waiting a step
 quiet_choice s halted env c login (Some mechanisms.CramMd5) a is = quiet_is s a _ is (record { kept = tt; new = tt })
+quiet_choice s halted env c login (Some mechanisms.External) a step = quiet_logged_in s halted env c _ None a step
 
 quiet_login : (s : Settings) (halted : Bool) (env : Env) (c : RepoState) (login : OpenLogin) (r : Result AuthResponse CommandFault) (a : Answer)
     → LoginStep s env login r halted c a → IsQuiet s a
-quiet_login s halted env c login (Ok r) a step = quiet_choice s halted env c login (chosen (offer s.users login.waiting) r.mechanism) a step
+quiet_login s halted env c login (Ok r) a step = quiet_choice s halted env c login (chosen (offer s.account s.users login.waiting) r.mechanism) a step
 quiet_login s halted env c login (Err fault) a is = quiet_is s a _ is (ending s env _)
 
 quiet_outcome : (s : Settings) (halted : Bool) (env : Env) (c : RepoState) (login : OpenLogin) (user : Option (List ℕ)) (a : Answer)

@@ -6,7 +6,7 @@ use Rattle.refusals.specs.Refusing.{path_refusal}
 use Rattle.cram.specs.{Login.Login, Answer.{challenge_text, IsAnswerOf}}
 use Rattle.wire_forms.specs.{Forms.is_name, declared.fault.CommandFault.CommandFault}
 use Rattle.commands.specs.{declared.command.MainCommand.MainCommand, declared.login.ClientGreeting.ClientGreeting, declared.login.AuthResponse.AuthResponse}
-use Rattle.wire_replies.specs.{declared.reply.Offer.Offer, declared.reply.Offer.TheVariants.{Anonymous, AnonymousOrUser, User}}
+use Rattle.wire_replies.specs.{declared.reply.Offer.Offer, declared.reply.Offer.TheVariants.{Anonymous, AnonymousOrUser, User, External}}
 use Rattle.wire_replies.specs.declared.reply.Reply.TheVariants as replies
 use Rattle.machine.specs.{Settings.Settings, Answers.{Answer, Step, says, Behind, malformed, Always, Shows}, Commands.{is_write, OwnStep}, declared.env.Env.Env}
 use Rattle.machine.specs.{declared.login.Mechanism.Mechanism, declared.phase.Client.Client, declared.login.OpenLogin.OpenLogin}
@@ -15,28 +15,46 @@ use Rattle.machine.specs.declared.login.Mechanism.TheVariants as mechanisms
 
 -- ---- what is offered
 
--- a login without a name; a user's as well, where there are users; a user's alone, where a command
--- waits for it
-abbrev pub offer : Option (List Login) → Option MainCommand → Offer
-offer None waiting = Anonymous
-offer (Some users) None = AnonymousOrUser
-offer (Some users) (Some command) = User
+-- at first: a login as the account that the client came as alone, where that is known; otherwise a
+-- login without a name, and a user's as well, where there are users
+abbrev pub first_offer : Option (List ℕ) → Option (List Login) → Offer
+first_offer (Some account) users = External
+first_offer None None = Anonymous
+first_offer None (Some users) = AnonymousOrUser
+
+-- for a command that waits: a user's login alone, where there are users
+abbrev pub later_offer : Option (List Login) → Offer
+later_offer None = Anonymous
+later_offer (Some users) = User
+
+abbrev pub offer : Option (List ℕ) → Option (List Login) → Option MainCommand → Offer
+offer account users None = first_offer account users
+offer account users (Some command) = later_offer users
 
 abbrev pub offers_anonymous : Offer → Bool
 offers_anonymous Anonymous = true
 offers_anonymous AnonymousOrUser = true
 offers_anonymous User = false
+offers_anonymous External = false
 
 abbrev pub offers_user : Offer → Bool
 offers_user Anonymous = false
 offers_user AnonymousOrUser = true
 offers_user User = true
+offers_user External = false
+
+abbrev pub offers_external : Offer → Bool
+offers_external Anonymous = false
+offers_external AnonymousOrUser = false
+offers_external User = false
+offers_external External = true
 
 -- the mechanism of this name, if it is offered
 abbrev pub chosen : Offer → List ℕ → Option Mechanism
 chosen offered name =
     if offers_anonymous offered && is_name name (codes "ANONYMOUS") then Some mechanisms.Anonymous
     else if offers_user offered && is_name name (codes "CRAM-MD5") then Some mechanisms.CramMd5
+    else if offers_external offered && is_name name (codes "EXTERNAL") then Some mechanisms.External
     else None
 
 -- ---- a login is asked for
@@ -44,7 +62,7 @@ chosen offered name =
 -- it is asked for, and a choice is awaited
 abbrev pub asks : Settings → Env → OpenLogin → Answer
 asks s env login =
-    says env (LoggingIn login) (replies.Login (offer s.users login.waiting) s.name ∷ [])
+    says env (LoggingIn login) (replies.Login (offer s.account s.users login.waiting) s.name ∷ [])
 
 -- a write command of a client without a user waits for one, where there are users
 abbrev pub wants_user : Settings → Client → MainCommand → Bool
@@ -98,16 +116,23 @@ challenges s env login =
     says (without_nonce env) (Challenged (record { login = login; challenge = challenge_of s env }))
     (replies.Challenge (challenge_of s env) ∷ [])
 
--- after a mechanism that is not offered another choice is awaited
+-- the same client, by the name of the account that it came as
+abbrev pub as_account : Client → Option (List ℕ) → Client
+as_account client account = record client { user = account }
+
+-- after a mechanism that is not offered another choice is awaited; no command waits for the login of
+-- an account
 abbrev pub ChoiceStep : Settings → Env → OpenLogin → Option Mechanism → Step
 ChoiceStep s env login None =
     Always (says env (LoggingIn login) (replies.MechanismNotOffered ∷ []))
 ChoiceStep s env login (Some mechanisms.Anonymous) = LoggedIn s env login.client login.waiting
 ChoiceStep s env login (Some mechanisms.CramMd5) = Always (challenges s env login)
+ChoiceStep s env login (Some mechanisms.External) =
+    LoggedIn s env (as_account login.client s.account) None
 
 abbrev pub LoginStep : Settings → Env → OpenLogin → Result AuthResponse CommandFault → Step
 LoginStep s env login (Ok r) =
-    ChoiceStep s env login (chosen (offer s.users login.waiting) r.mechanism)
+    ChoiceStep s env login (chosen (offer s.account s.users login.waiting) r.mechanism)
 LoginStep s env login (Err fault) = Always (malformed env)
 
 -- ---- a challenge is answered

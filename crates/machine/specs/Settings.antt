@@ -19,10 +19,10 @@ is_dots name = is_name name (46 ∷ []) || is_name name (46 ∷ 46 ∷ [])
 abbrev pub is_repository_name : List ℕ → Bool
 is_repository_name name = has_name_length name && list_all is_name_byte name && not (is_dots name)
 
--- the repository's name, the users with their passwords where there is a file of them, and whether
--- revision
--- properties may be changed
+-- the repository's name, the account that a client came as where that is known, the users with their
+-- passwords where there is a file of them, and whether revision properties may be changed
 pub record Settings : Type 0 where
   pub name : List ℕ
+  pub account : Option (List ℕ)
   pub users : Option (List Login)
   pub revprops : Bool

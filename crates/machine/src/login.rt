@@ -1,6 +1,6 @@
 //! A login that is under way.
 ghost use Rattle.std.specs.Prelude.{◌≡◌};
-ghost use Rattle.machine.specs.{Commands.env_without_token, Logins.{offer, offers_anonymous, offers_user, chosen, without_nonce}};
+ghost use Rattle.machine.specs.{Commands.env_without_token, Logins.{chosen, first_offer, later_offer, offer, offers_anonymous, offers_external, offers_user, without_nonce}};
 
 use crate::env::Env;
 use crate::options::Options;
@@ -16,6 +16,8 @@ pub enum Mechanism {
     Anonymous,
     /// As a user, by its password.
     CramMd5,
+    /// As the account that the client came as.
+    External,
 }
 
 /// A client whose login is awaited, and the write command that waits for it, if one does.
@@ -72,12 +74,32 @@ impl OpenChallenge {
 
 /// Says what is offered to a client, for which a command may wait.
 pub fn offer(options: &Options, waiting: &Option<MainCommand>) -> Offer
-    ensures { result ≡ offer options.now.users waiting.now }
+    ensures { result ≡ offer options.now.account options.now.users waiting.now }
 {
-    match (options.users(), waiting) {
-        (None, _) => Offer::Anonymous,
-        (Some(_), None) => Offer::AnonymousOrUser,
-        (Some(_), Some(_)) => Offer::User,
+    match waiting {
+        None => first_offer(options),
+        Some(_) => later_offer(options),
+    }
+}
+
+/// Says what is offered to a client for which no command waits.
+fn first_offer(options: &Options) -> Offer
+    ensures { result ≡ first_offer options.now.account options.now.users }
+{
+    match (options.account(), options.users()) {
+        (Some(_), _) => Offer::External,
+        (None, None) => Offer::Anonymous,
+        (None, Some(_)) => Offer::AnonymousOrUser,
+    }
+}
+
+/// Says what is offered to a client for which a command waits.
+fn later_offer(options: &Options) -> Offer
+    ensures { result ≡ later_offer options.now.users }
+{
+    match options.users() {
+        None => Offer::Anonymous,
+        Some(_) => Offer::User,
     }
 }
 
@@ -89,6 +111,8 @@ pub fn chosen(offered: Offer, name: &[u8]) -> Option<Mechanism>
         Some(Mechanism::Anonymous)
     } else if offers_user(offered) && name == b"CRAM-MD5".as_slice() {
         Some(Mechanism::CramMd5)
+    } else if offers_external(offered) && name == b"EXTERNAL".as_slice() {
+        Some(Mechanism::External)
     } else {
         None
     }
@@ -106,6 +130,13 @@ fn offers_user(offered: Offer) -> bool
     ensures { result ≡ offers_user offered }
 {
     matches!(offered, Offer::AnonymousOrUser | Offer::User)
+}
+
+/// Says whether a login as an account is offered.
+fn offers_external(offered: Offer) -> bool
+    ensures { result ≡ offers_external offered }
+{
+    matches!(offered, Offer::External)
 }
 
 impl Env {

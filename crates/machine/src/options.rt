@@ -2,6 +2,7 @@
 ghost use Rattle.std.specs.{Prelude.{◌≡◌, IsTrue, IfOk, Some, None, true, false, option_copied, string_bytes}, List.list_all};
 ghost use Rattle.machine.specs.Settings.{is_repository_name, has_name_length, is_dots, is_name_byte};
 
+use byte_string::ByteString;
 use cram::Users;
 use std::alloc::{AllocError, Global};
 use std::marker::Model;
@@ -10,11 +11,12 @@ use std::mem::drop;
 /// The most bytes of a repository's name.
 pub const NAME_LIMIT: usize = 64;
 
-/// What a server is started with: the repository's name, the users that may log in, if there is a file of them, and
-/// whether clients may change the properties of revisions.
+/// What a session goes by: the repository's name, the account that its client came as, if that is known, the users that
+/// may log in, if there is a file of them, and whether clients may change the properties of revisions.
 /// There is no `Debug`, so that nothing of a password is printed.
 pub struct Options {
     name: String,
+    account: Option<ByteString>,
     users: Option<Users>,
     revprops: bool,
 }
@@ -23,6 +25,7 @@ impl Drop for Options {
     fn drop(self) {
         let Options {
             name: _,
+            account: _,
             users: _,
             revprops: _,
         } = self;
@@ -35,7 +38,12 @@ impl Model for Options {
 
     ghost Value = { Settings };
 
-    ghost view = { λ o. record { name = string_bytes o.name; users = o.users; revprops = o.revprops } };
+    ghost view = { λ o. record {
+      name = string_bytes o.name;
+      account = o.account;
+      users = o.users;
+      revprops = o.revprops;
+    } };
 }
 
 impl Options {
@@ -43,10 +51,11 @@ impl Options {
     pub fn new(alloc: Global, name: &str) -> Result<Options, AllocError>
         requires { IsTrue (is_repository_name name.now) }
         ensures { IfOk result (λ o. o
-            ≡ record { name = name.now; users = None; revprops = false }) }
+            ≡ record { name = name.now; account = None; users = None; revprops = false }) }
     {
         Ok(Options {
             name: String::from_str(alloc, name)?,
+            account: None,
             users: None,
             revprops: false,
         })
@@ -59,13 +68,34 @@ impl Options {
     {
         let Options {
             name,
+            account,
             users: before,
             revprops,
         } = self;
         drop(before);
         Options {
             name,
+            account,
             users: Some(users),
+            revprops,
+        }
+    }
+
+    /// Gives the same, of a client that came as the account of this name. Then it logs in by that name, and by no other.
+    pub fn with_account(self, name: ByteString) -> Options
+        ensures { result ≡ record self { account = Some name } }
+    {
+        let Options {
+            name: repository,
+            account: before,
+            users,
+            revprops,
+        } = self;
+        drop(before);
+        Options {
+            name: repository,
+            account: Some(name),
+            users,
             revprops,
         }
     }
@@ -76,11 +106,13 @@ impl Options {
     {
         let Options {
             name,
+            account,
             users,
             revprops: _,
         } = self;
         Options {
             name,
+            account,
             users,
             revprops: true,
         }
@@ -91,6 +123,13 @@ impl Options {
         ensures { result ≡ self.now.revprops }
     {
         self.revprops
+    }
+
+    /// Gives the account that the client came as, if that is known.
+    pub fn account(&self) -> Option<&ByteString>
+        ensures { option_copied result ≡ self.now.account }
+    {
+        self.account.as_ref()
     }
 
     /// Gives the users that may log in, if there is a file of them.

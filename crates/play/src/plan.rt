@@ -5,6 +5,7 @@ ghost use Rattle.hub_runs.specs.Laws.{new_hub};
 
 use crate::hubs::{PlayedHub, new_folder_hub, new_memory_hub};
 use access::SoleRepository;
+use byte_string::ByteString;
 use cram::Users;
 use hub::Hub;
 use in_memory::InMemory;
@@ -80,10 +81,11 @@ fn hub_at<R: InMemory>(
     }
 }
 
-/// A hub that is asked for, the bytes of its users file, if it has one, whether its clients may change
-/// the properties of revisions, where its repository is, and which format that is of, where it is new.
+/// A hub that is asked for, the account that its clients came as, if one is said, the bytes of its users file, if it has one,
+/// whether its clients may change the properties of revisions, where its repository is, and which format that is of, where it is new.
 pub struct Plan {
     hub: NewHub,
+    account: Option<String>,
     users: Option<Vec<u8>>,
     revprops: bool,
     place: Place,
@@ -94,6 +96,7 @@ impl Drop for Plan {
     fn drop(self) {
         let Plan {
             hub: _,
+            account: _,
             users: _,
             revprops: _,
             place: _,
@@ -122,6 +125,25 @@ fn with_users(alloc: Global, hub: NewHub, users: Option<Vec<u8>>) -> Result<NewH
     }
 }
 
+/// Gives the hub that is asked for clients that came as an account, if one is said.
+fn with_account(alloc: Global, hub: NewHub, account: Option<String>) -> Result<NewHub, AllocError> {
+    let Some(name) = account else {
+        return Ok(hub);
+    };
+    let name = ByteString::from_slice(alloc, name.as_bytes());
+    match name {
+        Ok(name) => {
+            let mut hub = hub;
+            hub.options = hub.options.with_account(name);
+            Ok(hub)
+        }
+        Err(error) => {
+            drop(hub);
+            Err(error)
+        }
+    }
+}
+
 /// Lets the clients of the hub that is asked for change the properties of revisions, if they may.
 fn with_revprops(hub: NewHub, revprops: bool) -> NewHub {
     let mut hub = hub;
@@ -137,6 +159,7 @@ impl Plan {
     pub fn new(hub: NewHub) -> Self {
         Plan {
             hub,
+            account: None,
             users: None,
             revprops: false,
             place: Place::Plain,
@@ -147,6 +170,11 @@ impl Plan {
     /// Lets its clients change the properties of revisions.
     pub fn open_revprops(&mut self) {
         self.revprops = true;
+    }
+
+    /// Has clients that came as the account of this name.
+    pub fn set_account(&mut self, name: String) {
+        self.account = Some(name);
     }
 
     /// Has its repository at another place.
@@ -183,13 +211,22 @@ impl Plan {
     fn settled(self, alloc: Global) -> Result<(NewHub, Place, NewFormat), LineFault> {
         let Plan {
             hub,
+            account,
             users,
             revprops,
             place,
             format,
         } = self;
-        match with_users(alloc, hub, users) {
-            Ok(hub) => Ok((with_revprops(hub, revprops), place, format)),
+        let hub = with_revprops(hub, revprops);
+        let settled = match with_account(alloc, hub, account) {
+            Ok(hub) => with_users(alloc, hub, users),
+            Err(AllocError) => {
+                drop(users);
+                Err(LineFault::from(AllocError))
+            }
+        };
+        match settled {
+            Ok(hub) => Ok((hub, place, format)),
             Err(fault) => {
                 drop(place);
                 Err(fault)

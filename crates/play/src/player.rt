@@ -76,6 +76,7 @@ impl<R: InMemory> Player<R> {
                 Ok(None)
             }
             Line::Revprops => self.open_revprops(),
+            Line::Account(name) => self.set_account(name),
             Line::Users => self.begin_users(),
             Line::User(user) => self.add_user(&user),
             Line::Place(place) => self.put(place),
@@ -103,6 +104,20 @@ impl<R: InMemory> Player<R> {
     fn open_revprops(&mut self) -> Result<Option<String>, LineFault> {
         self.plan()?.open_revprops();
         Ok(None)
+    }
+
+    /// Has clients of the hub that is asked for that came as an account.
+    fn set_account(&mut self, name: String) -> Result<Option<String>, LineFault> {
+        match self.plan() {
+            Ok(plan) => {
+                plan.set_account(name);
+                Ok(None)
+            }
+            Err(fault) => {
+                drop(name);
+                Err(fault)
+            }
+        }
     }
 
     /// Has the repository of the hub that is asked for in a format, where it is new.

@@ -2,5 +2,3 @@ pub mod Reaching
 pub mod Steps
 pub mod Joining
 pub mod Readings
-pub mod Beginning
-pub mod Copying

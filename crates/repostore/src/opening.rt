@@ -136,7 +136,7 @@ fn read_head<S: Store, R: Reader>(
 }
 
 /// Gives the layout that the file `format` says.
-pub(crate) fn layout_of(format: &Option<Vec<u8>>) -> Layout
+pub fn layout_of(format: &Option<Vec<u8>>) -> Layout
     ensures { result ≡ layout_in (bytes_of format.now) }
 {
     match format {
@@ -166,7 +166,7 @@ fn read_rest<S: Store, R: Reader>(
 }
 
 /// Reads the bytes of a file; one that is missing has none.
-pub(crate) fn read_text<S: Store>(
+pub fn read_text<S: Store>(
     alloc: Global,
     store: &mut S,
     name: FileName,

@@ -3,6 +3,7 @@
 //!     # any text                             nothing
 //!     hub NAME UUID MOMENT                   a new hub, in place of the one before, over an empty repository
 //!     revprops                               clients of it may change the properties of revisions
+//!     account NAME                           its clients came as this account
 //!     users                                  a users file for it, so far without users
 //!     user NAME PASSWORD                     one more user in its users file, the password in HEX
 //!     memory                                 its repository is in files, in memory
@@ -21,7 +22,7 @@
 //! by its fault in place of HEX: `H1` for a session that isn't open, `H2` where memory ran out, `H3` for a hub
 //! that has halted, `H4` for one that is full.
 //!
-//! What a hub is made with, `revprops`, the place and the format of its repository and the lines of users, stands after
+//! What a hub is made with, `revprops`, `account`, the place and the format of its repository and the lines of users, stands after
 //! the hub's line and before its first call, at which the hub is made. A users file of all users is read then: the
 //! line `[users]`, and `NAME = PASSWORD` for each user, in order; so there is one also without a
 //! `users` line where a user is named. A hub without such lines has no users file. A users file

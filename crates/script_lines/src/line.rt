@@ -88,6 +88,8 @@ pub enum Line {
     Hub(NewHub),
     /// The hub that is asked for lets its clients change the properties of revisions.
     Revprops,
+    /// The clients of the hub that is asked for came as the account of this name.
+    Account(String),
     /// A users file for the hub that is asked for, so far without users.
     Users,
     /// One more user in the file.
@@ -128,6 +130,7 @@ impl Line {
         match *words {
             ["hub", name, uuid, moment] => Ok(Line::Hub(parse_hub(alloc, name, uuid, moment)?)),
             ["revprops"] => Ok(Line::Revprops),
+            ["account", name] => Ok(Line::Account(String::from_str(alloc, name)?)),
             ["users"] => Ok(Line::Users),
             ["user", name, password] => Ok(Line::User(NewUser {
                 name: String::from_str(alloc, name)?,

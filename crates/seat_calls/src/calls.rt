@@ -9,10 +9,11 @@ ghost use Rattle.seat_calls.specs.Calls.{Calls};
 use crate::changes::{make_commit, make_lock, make_property, make_unlock};
 use access::{Committed, NotCommitted};
 use archives::Archive;
-use keepers::{Keeper, Seat};
+use keepers::Keeper;
 use left_right::Absorb;
 use published::{Carries, Naming, Published, Sets};
 use repo_api::{ChangeFault, CommitAsk, LockAsk, PropertyAsk, Repository, UnlockAsk};
+use seats::Seat;
 use std::mem::drop;
 use std::sync::Wait;
 

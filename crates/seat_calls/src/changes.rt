@@ -10,11 +10,12 @@ ghost use Rattle.seat_calls.specs.Releasing.{ReleasesHanded, ReleasesTo, Revises
 
 use access::{Committed, Handed, NotCommitted, Released, handed_locks, refused_commit};
 use archives::Archive;
-use keepers::{Keeper, Seat};
+use keepers::Keeper;
 use left_right::Absorb;
 use noted::Noted;
 use published::{AskedChange, Carries, Naming, Published, Sets, commits_are_right};
 use repo_api::{ChangeFault, CommitAsk, LockAsk, PropertyAsk, Repository, UnlockAsk};
+use seats::Seat;
 use std::alloc::AllocError;
 use std::mem::drop;
 use std::sync::Wait;

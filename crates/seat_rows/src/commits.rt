@@ -3,7 +3,7 @@ ghost use Rattle.std.specs.Prelude.{IfOk};
 ghost use Rattle.repo_api.specs.{Soundness.AreSound, Transactions.MayCommit};
 
 use crate::files::{DATE, bytes};
-use crate::seats::SoundTrees;
+use crate::places::SoundTrees;
 use access::{Committed, RepoAccess};
 use byte_string::ByteString;
 use repo_api::{ChangeFault, CommitAsk, LockTokens, NodeKind, Repository};

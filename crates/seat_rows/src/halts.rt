@@ -3,8 +3,8 @@ ghost use Rattle.std.specs.Prelude.{◌≡◌};
 
 use crate::commits::{commit, youngest};
 use crate::files::new_files;
+use crate::places::{SoundTrees, opened, places};
 use crate::plays::{Act, Marks, Play, act_in, is_played_over};
-use crate::seats::{SoundTrees, opened, places};
 use crate::stores::{TestStore, failing};
 use access::RepoAccess;
 use filed_world::FiledWorld;

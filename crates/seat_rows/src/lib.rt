@@ -10,6 +10,8 @@ mod halts;
 #[cfg(test)]
 mod looks;
 #[cfg(test)]
+mod places;
+#[cfg(test)]
 mod plays;
 #[cfg(test)]
 mod properties;
@@ -17,8 +19,6 @@ mod properties;
 mod releases;
 #[cfg(test)]
 mod saves;
-#[cfg(test)]
-mod seats;
 #[cfg(test)]
 mod sixteen;
 #[cfg(test)]

@@ -2,8 +2,8 @@
 
 use crate::commits::{commit, youngest};
 use crate::files::new_files;
+use crate::places::{SoundTrees, opened};
 use crate::plays::{Play, is_played_over};
-use crate::seats::{SoundTrees, opened};
 use crate::stores::{TestStore, whole};
 use access::RepoAccess;
 use filed_world::FiledWorld;

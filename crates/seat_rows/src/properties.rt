@@ -2,8 +2,8 @@
 ghost use Rattle.std.specs.Prelude.{◌≡◌};
 
 use crate::files::{bytes, new_files};
+use crate::places::{opened, two_seats};
 use crate::plays::{Act, Marks, Play, act_at, is_played_over};
-use crate::seats::{opened, two_seats};
 use crate::stores::{TestStore, whole};
 use access::RepoAccess;
 use byte_string::ByteString;

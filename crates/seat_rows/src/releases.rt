@@ -3,8 +3,8 @@
 
 use crate::commits::{ask_for, commit, commit_of, youngest};
 use crate::files::{bytes, files_with_a, lock_ask, path_a};
+use crate::places::{SoundTrees, opened};
 use crate::plays::{Play, is_played_over};
-use crate::seats::{SoundTrees, opened};
 use crate::stores::{TestStore, failing, whole};
 use access::{Released, RepoAccess};
 use filed_world::FiledWorld;

@@ -3,8 +3,8 @@ ghost use Rattle.std.specs.Prelude.{◌≡◌};
 
 use crate::commits::youngest;
 use crate::files::new_files;
+use crate::places::{opened, two_seats};
 use crate::plays::{Act, Marks, act_at};
-use crate::seats::{opened, two_seats};
 use crate::stores::{TestStore, wait_for, waiting};
 use access::RepoAccess;
 use filed_opening::FolderRepository;

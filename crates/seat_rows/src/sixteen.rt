@@ -3,8 +3,8 @@ ghost use Rattle.std.specs.Prelude.{◌≡◌};
 
 use crate::commits::{ask_for, commit_of};
 use crate::files::{bytes, files_with_a, lock_ask, path_a};
+use crate::places::{Place, SoundTrees, opened, places};
 use crate::plays::{Act, Marks, act_in};
-use crate::seats::{Place, SoundTrees, opened, places};
 use crate::stores::{TestStore, whole};
 use access::RepoAccess;
 use byte_string::ByteString;

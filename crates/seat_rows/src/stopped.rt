@@ -3,9 +3,9 @@ ghost use Rattle.std.specs.Prelude.{◌≡◌};
 
 use crate::commits::youngest;
 use crate::files::new_files;
+use crate::places::{SoundTrees, opened};
 use crate::plays::Marks;
 use crate::saves::look_beside;
-use crate::seats::{SoundTrees, opened};
 use crate::stores::{TestStore, failing, waiting};
 use published::NewHistory;
 use std::alloc::Global;

@@ -1,8 +1,8 @@
 //! The files of a repository in memory, with all that tests make of them, so that each call is compiled for one type of
 //! store alone.
 
+use crate::places::AtRest;
 use crate::plays::Marks;
-use crate::seats::AtRest;
 use std::alloc::Global;
 use std::sync::Arc;
 use std::sync::atomic::{AtomicBool, Ordering};

@@ -1,5 +1,5 @@
 -- What a server is asked to serve by, and what it serves by.
-use Rattle.std.specs.{Net.Grammar.IsSocketText, Prelude.{◌≡◌, ℕ, List, [], ◌∷◌, Some, map, string_bytes, ⊤}}
+use Rattle.std.specs.{Net.Grammar.IsSocketText, Prelude.{◌≡◌, ℕ, List, [], ◌∷◌, None, Some, map, string_bytes, ⊤}}
 use Rattle.std.specs.declared.net.socket_addr.SocketAddr.{SocketAddr}
 use Rattle.cram.specs.UsersFile.{AreRight, file_lines, logins_of}
 use Rattle.command_line.specs.declared.order.Service.{Service}
@@ -11,6 +11,7 @@ abbrev pub OptionsAreAsked : Service → Settings → Type 0
 OptionsAreAsked service s =
     (bytes : List ℕ) × AreRight (file_lines bytes) × (s.options ≡ record {
       name = string_bytes service.name;
+      account = None;
       users = Some (logins_of (file_lines bytes));
       revprops = service.revprops;
     })

@@ -12,7 +12,7 @@ use crate::fault::ServingFault;
 use crate::settings::Server;
 use access::SplitAccess;
 use crossbeam_channel::Receiver;
-use entrance::{Client, Halts, Registry};
+use entrance::{ClientVisit, Halts, Registry};
 use filed_archive::{ServedAccess, ServedChanges, ServedRepo, ServedSeat, share};
 use published::{Naming, NewHistory};
 use rand::rngs::StdRng;
@@ -69,12 +69,12 @@ impl<'r, R: Clock + Wait, F: Filed, S: Store, J: Naming> Desk<'r, R, F, S, J> {
     }
 }
 
-/// Serves callers at a desk, one after another, until no more can come, with the options of the server, from the moment
-/// that its seat has seen. It gives back what they were served at.
+/// Serves callers at a desk, one after another, until no more can come, each with the options of the server or those of a
+/// later reading of the file of users, from the moment that its seat has seen. It gives back what they were served at.
 fn serve_callers<'r, R, F, S, J>(
     server: &Server<'_, R>,
     pool: &SessionPool<'_, Registry<'_, R>, Registry<'_, R>>,
-    callers: &Receiver<Client<'_, R>>,
+    visits: &Receiver<ClientVisit<'_, R>>,
     desk: Desk<'r, R, F, S, J>,
 ) -> (Access<'r, R, F, S, J>, SystemEnvs<'r, R>)
 where
@@ -90,14 +90,14 @@ where
         (stand options (point_of desk.entry.seat) desk.entry.envs)
         (stand options (point_of result.0.looks) result.1) }
 {
-    pool.serve_at(server.rt, server.alloc, callers, desk.into_parts())
+    pool.serve_at(server.rt, server.alloc, visits, desk.into_parts())
 }
 
 /// Serves callers at a desk, one after another, until no more can come.
 pub(crate) fn work_at<R, F, S, J>(
     server: &Server<'_, R>,
     pool: &SessionPool<'_, Registry<'_, R>, Registry<'_, R>>,
-    callers: &Receiver<Client<'_, R>>,
+    visits: &Receiver<ClientVisit<'_, R>>,
     desk: Desk<'_, R, F, S, J>,
 )
 where
@@ -108,7 +108,7 @@ where
     requires options { settings_of pool.now ≡ server.now.settings.now.options }
     requires sound { AreSound (content_of (point_of desk.seat)).revisions }
 {
-    drop(serve_callers(server, pool, callers, desk));
+    drop(serve_callers(server, pool, visits, desk));
 }
 
 /// A repository in files that sessions share.

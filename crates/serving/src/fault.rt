@@ -6,6 +6,12 @@ use std::alloc::{AllocError, AllocFailed};
 use store_files::StoreFault;
 use thiserror::Error;
 
+/// What is said of an invalid line of the file of users, before the name of the file.
+pub const INVALID_LINE: &str = "that line is not valid in the file of users ";
+
+/// What is said where the file of users cannot be read, before the name of the file.
+pub const UNREADABLE: &str = "cannot read the file of users ";
+
 /// Why no sessions are served, or none any more.
 #[derive(Debug, Drop, Error)]
 pub enum ServingFault {

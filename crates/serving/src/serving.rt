@@ -11,7 +11,9 @@ use crate::opening::{Aloud, Opening, Silent};
 use crate::reason::Reason;
 use crate::settings::{Server, Settings};
 use crossbeam_channel::{Receiver, Sender, unbounded};
-use entrance::{Client, Entrance, Event, Registry, take_all, too_few_files};
+use entrance::{
+    ClientVisit, Entrance, Event, ReadOnce, Readings, Registry, take_all, too_few_files,
+};
 use filed_world::FiledWorld;
 use journals::{Journal, Room, write_lines};
 use published::Naming;
@@ -30,18 +32,20 @@ use store_files::{Store, StoreFault};
 
 /// Takes connections at an entrance of a repository in files: for any repository, since at a named one the checker
 /// reaches its limit of steps.
-fn take_at<'e, R, F, S, J>(
+fn take_at<'e, R, F, S, J, N>(
     entrance: &'e Entrance<'e, R, SharedFiles<F, S, J>>,
     pool: &SessionPool<'_, Registry<'_, R>, Registry<'_, R>>,
-    callers: &Sender<Client<'e, R>>,
+    visits: &Sender<ClientVisit<'e, R>>,
+    readings: &N,
 )
 where
     R: Clock + Net + Wait,
     F: Filed,
     S: Store,
     J: Naming,
+    N: Readings,
 {
-    take_all(entrance, pool, callers)
+    take_all(entrance, pool, visits, readings)
 }
 
 /// Says why no more connections are taken, where that is a fault.
@@ -59,21 +63,23 @@ where
     Ok(())
 }
 
-/// The way of connections to the threads that serve them, and what is told as it opens.
+/// The way of connections to the threads that serve them, what is told as it opens, and who knows the newest reading of the
+/// file of users.
 #[derive(Drop)]
-struct Way<'a, 'e, R, O> {
-    sender: Sender<Client<'e, R>>,
-    callers: &'a Receiver<Client<'e, R>>,
+struct Way<'a, 'e, R, O, N> {
+    sender: Sender<ClientVisit<'e, R>>,
+    visits: &'a Receiver<ClientVisit<'e, R>>,
     opening: &'a O,
+    readings: &'a N,
 }
 
 /// Starts a thread for each desk, tells that all have started, and takes connections. It answers once no more are to be taken
 /// and all sessions have ended, by a fault where changes have come to a halt; or where a thread cannot be started.
-fn run_pool<'e, R, S, J, O>(
+fn run_pool<'e, R, S, J, O, N>(
     server: &Server<'_, R>,
     entrance: &'e Entrance<'e, R, SharedFiles<FiledWorld, S, J>>,
     pool: &SessionPool<'_, Registry<'_, R>, Registry<'_, R>>,
-    way: Way<'_, 'e, R, O>,
+    way: Way<'_, 'e, R, O, N>,
     desks: Vec<Desk<'_, R, FiledWorld, S, J>>,
 ) -> Result<(), ServingFault>
 where
@@ -87,13 +93,15 @@ where
     S: Store + Send + Sync + 'static,
     J: Naming + Send + Sync + 'static,
     O: Opening,
+    N: Readings,
     requires options { settings_of pool.now ≡ server.now.settings.now.options }
     requires sound { All (λ d. AreSound (content_of (point_of d.seat)).revisions) desks.items }
 {
     let Way {
         sender,
-        callers,
+        visits,
         opening,
+        readings,
     } = way;
     thread::scope(
         thread::scope_env(),
@@ -107,24 +115,24 @@ where
                     move ||
                         requires { (settings_of pool.now ≡ server.now.settings.now.options)
                             × AreSound (content_of (point_of desk.seat)).revisions }
-                    { work_at(server, pool, callers, desk) },
+                    { work_at(server, pool, visits, desk) },
                 );
                 if worker.is_err() {
                     return Err(ServingFault::Thread);
                 }
             }
             opening.tell(&entrance.registry)?;
-            take_at(entrance, pool, &sender);
+            take_at(entrance, pool, &sender, readings);
             ending_of(entrance)
         },
     )
 }
 
 /// Serves the connections that come in by an entrance, each at one of these desks.
-fn serve_desks<'e, R, S, J, O>(
+fn serve_desks<'e, R, S, J, O, N>(
     server: &Server<'_, R>,
     entrance: &'e Entrance<'e, R, SharedFiles<FiledWorld, S, J>>,
-    opening: &O,
+    told: (&O, &N),
     desks: Vec<Desk<'_, R, FiledWorld, S, J>>,
 ) -> Result<(), ServingFault>
 where
@@ -138,9 +146,11 @@ where
     S: Store + Send + Sync + 'static,
     J: Naming + Send + Sync + 'static,
     O: Opening,
+    N: Readings,
     requires { All (λ d. AreSound (content_of (point_of d.seat)).revisions) desks.items }
 {
-    let (sender, callers) = unbounded::<Client<'e, R>, Global>(entrance.alloc)?;
+    let (opening, readings) = told;
+    let (sender, visits) = unbounded::<ClientVisit<'e, R>, Global>(entrance.alloc)?;
     let options = &server.settings.options;
     let pool = SessionPool::new(
         options,
@@ -150,22 +160,25 @@ where
     );
     let way = Way {
         sender,
-        callers: &callers,
+        visits: &visits,
         opening,
+        readings,
     };
     run_pool(server, entrance, &pool, way, desks)
 }
 
-/// Where connections come in, how many are taken, and what is told once they are.
+/// Where connections come in, how many are taken, what is told once they are, and who knows the newest reading of the file of
+/// users.
 #[derive(Drop)]
-struct Arrivals<'a, O> {
+struct Arrivals<'a, O, N> {
     listeners: &'a [TcpListener],
     connections: usize,
     opening: &'a O,
+    readings: &'a N,
 }
 
 /// Serves so many connections at the desks of a repository, one after another, each in the thread of a desk. It
-/// answers once all have ended, or where a thread fails.
+/// answers once all have ended, or where a thread fails. The file of users is not read again.
 pub fn serve_connections<R, S, J>(
     server: &Server<'_, R>,
     listeners: &[TcpListener],
@@ -188,6 +201,7 @@ where
         listeners,
         connections,
         opening: &Silent,
+        readings: &ReadOnce,
     };
     serve_arrivals(server, arrivals, desks)
 }
@@ -203,9 +217,9 @@ fn tell_of_users<R: Clock + Eprint>(settings: &Settings, registry: &Registry<'_,
 }
 
 /// Serves the connections that arrive, and tells of them in a journal.
-fn serve_told<R, S, J, O>(
+fn serve_told<R, S, J, O, N>(
     server: &Server<'_, R>,
-    arrivals: Arrivals<'_, O>,
+    arrivals: Arrivals<'_, O, N>,
     journal: Journal<'_, R>,
     desks: Desks<'_, R, FiledWorld, S, J>,
 ) -> Result<(), ServingFault>
@@ -220,6 +234,7 @@ where
     S: Store + Send + Sync + 'static,
     J: Naming + Send + Sync + 'static,
     O: Opening,
+    N: Readings,
     requires { All (λ d. AreSound (content_of (point_of d.seat)).revisions) desks.1.items }
 {
     let (repository, desks) = desks;
@@ -228,6 +243,7 @@ where
         listeners,
         connections,
         opening,
+        readings,
     } = arrivals;
     let exits_on_halt = server.settings.exits_on_halt;
     let wakes_at = match listeners {
@@ -245,13 +261,13 @@ where
         exits_on_halt,
     };
     tell_of_users(server.settings, &entrance.registry);
-    serve_desks(server, &entrance, opening, desks)
+    serve_desks(server, &entrance, (opening, readings), desks)
 }
 
 /// Serves the connections that arrive, while a thread writes what is told of them. That ends once all is written.
-fn serve_arrivals<R, S, J, O>(
+fn serve_arrivals<R, S, J, O, N>(
     server: &Server<'_, R>,
-    arrivals: Arrivals<'_, O>,
+    arrivals: Arrivals<'_, O, N>,
     desks: Desks<'_, R, FiledWorld, S, J>,
 ) -> Result<(), ServingFault>
 where
@@ -265,6 +281,7 @@ where
     S: Store + Send + Sync + 'static,
     J: Naming + Send + Sync + 'static,
     O: Opening,
+    N: Readings,
     requires { All (λ d. AreSound (content_of (point_of d.seat)).revisions) desks.1.items }
 {
     let (rt, alloc, is_quiet) = (server.rt, server.alloc, server.settings.is_quiet);
@@ -307,9 +324,11 @@ where
 }
 
 /// Serves sessions over TCP at the desks of a repository. It prints `ready` once it listens and all threads have
-/// started, and answers only where that or a thread fails, or changes have come to a halt and it is to end then.
-pub fn serve<R, S, J>(
+/// started, and answers only where that or a thread fails, or changes have come to a halt and it is to end then. Where the
+/// file of users has changed, sessions that begin from then on are served by its users, if its lines are right.
+pub fn serve<R, S, J, N>(
     server: &Server<'_, R>,
+    readings: &N,
     desks: Desks<'_, R, FiledWorld, S, J>,
 ) -> Result<(), ServingFault>
 where
@@ -324,6 +343,7 @@ where
         + Sync,
     S: Store + Send + Sync + 'static,
     J: Naming + Send + Sync + 'static,
+    N: Readings,
     requires { All (λ d. AreSound (content_of (point_of d.seat)).revisions) desks.1.items }
 {
     let addresses = server.settings.addresses.as_slice();
@@ -337,6 +357,7 @@ where
         listeners: listeners.as_slice(),
         connections: usize::MAX,
         opening: &opening,
+        readings,
     };
     serve_arrivals(server, arrivals, desks)
 }

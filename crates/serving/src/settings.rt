@@ -1,5 +1,5 @@
 //! What sessions are served by.
-ghost use Rattle.std.specs.Prelude.{◌≡◌, ◌<◌, ℕ, List, IfOk, IfSome, Some, length, map, slice_get, string_bytes};
+ghost use Rattle.std.specs.Prelude.{◌≡◌, ◌<◌, ℕ, List, IfOk, IfSome, None, Some, length, map, slice_get, string_bytes};
 ghost use Rattle.cram.specs.UsersFile.{AreRight, file_lines, logins_of};
 ghost use Rattle.serving.specs.Asked.{AreSocketTexts, CountsAreAsked, OptionsAreAsked, PlaceIsAsked};
 ghost use Rattle.std.specs.Net.Grammar.{IsSocketText};
@@ -64,9 +64,14 @@ fn addresses_of(alloc: Global, listen: &[String]) -> Result<Vec<SocketAddr>, Ser
 }
 
 /// Makes the options of the repository, with the users of a file.
-fn options_of(alloc: Global, service: &Service, users: Users) -> Result<Options, ServingFault>
+pub(crate) fn options_of(
+    alloc: Global,
+    service: &Service,
+    users: Users,
+) -> Result<Options, ServingFault>
     ensures { IfOk result (λ o. o ≡ record {
       name = string_bytes service.now.name;
+      account = None;
       users = Some users;
       revprops = service.now.revprops;
     }) }

@@ -1,11 +1,11 @@
 //! The login.
-ghost use Rattle.std.specs.Prelude.{◌≡◌, Ok, Some};
+ghost use Rattle.std.specs.Prelude.{◌≡◌, None, Ok, Some};
 ghost use Rattle.items.specs.View.{value_of};
 ghost use Rattle.commands.specs.Logins.{auth_response, challenge_answer};
-ghost use Rattle.machine.specs.{Answers.malformed, Logins.{ChallengeStep, LoginStep, OutcomeStep, with_user}, Steps.{Answered, Stepped}};
+ghost use Rattle.machine.specs.{Answers.malformed, Logins.{ChallengeStep, LoggedIn, LoginStep, OutcomeStep, as_account, with_user}, Steps.{Answered, Stepped}};
 
 use crate::challenging::{challenge, user_of};
-use crate::welcoming::log_client_in;
+use crate::welcoming::{log_client_in, welcome};
 use access::RepoAccess;
 use byte_string::ByteString;
 use commands::{AuthResponse, challenge_answer};
@@ -16,7 +16,7 @@ use session_commands::await_choice;
 use session_replies::{SessionPhase, end_malformed};
 use std::alloc::AllocError;
 use std::mem::drop;
-use wire_forms::CommandFault;
+use wire_forms::{CommandFault, copy_optional};
 use wire_replies::{Reply, ReplySink};
 
 /// Goes on with a mechanism that was chosen.
@@ -34,6 +34,7 @@ fn choose_mechanism<R: Repository, A: RepoAccess<View = R>, S: ReplySink>(
     match chosen(offered, response.mechanism.as_slice()) {
         Some(Mechanism::Anonymous) => log_client_in(options, login, access, turn),
         Some(Mechanism::CramMd5) => challenge(options, login, turn),
+        Some(Mechanism::External) => log_account_in(options, login, access, turn),
         None => await_choice(login, &Reply::MechanismNotOffered, turn),
     }
 }
@@ -71,21 +72,49 @@ pub fn login_item<R: Repository, A: RepoAccess<View = R>, S: ReplySink>(
     }
 }
 
+/// Gives the same client, of this user.
+fn with_user(client: Client, user: Option<ByteString>) -> Client
+    ensures { result ≡ record client { user = user } }
+{
+    let (path, root, before, is_of_today) = client.into_parts();
+    drop(before);
+    Client {
+        path,
+        root,
+        user,
+        is_of_today,
+    }
+}
+
 /// Gives the same login, of this user.
-fn with_user(login: OpenLogin, name: ByteString) -> OpenLogin
+fn login_of(login: OpenLogin, name: ByteString) -> OpenLogin
     ensures { result ≡ record login { client = with_user login.client name } }
 {
     let (client, waiting) = login.into_parts();
-    let (path, root, user, is_of_today) = client.into_parts();
-    drop(user);
     OpenLogin {
-        client: Client {
-            path,
-            root,
-            user: Some(name),
-            is_of_today,
-        },
+        client: with_user(client, Some(name)),
         waiting,
+    }
+}
+
+/// Logs a client in as the account that it came as, for whose login no command waits.
+fn log_account_in<R: Repository, A: RepoAccess<View = R>, S: ReplySink>(
+    options: &Options,
+    login: OpenLogin,
+    access: &mut A,
+    turn: &mut Turn<S>,
+) -> Result<SessionPhase<R>, AllocError>
+    ensures { Stepped result S.writes turn.old turn.new A.rules A.point access.old access.new
+        (LoggedIn options.now turn.old.env (as_account login.client options.now.account) None) }
+{
+    let (client, waiting) = login.into_parts();
+    drop(waiting);
+    match copy_optional(options.account()) {
+        Ok(account) => welcome(with_user(client, account), access, turn),
+        Err(error) => {
+            drop(client);
+            Err(error)
+        }
     }
 }
 
@@ -101,7 +130,7 @@ fn end_challenge<R: Repository, A: RepoAccess<View = R>, S: ReplySink>(
         (OutcomeStep options.now turn.old.env login user) }
 {
     match user {
-        Some(name) => log_client_in(options, with_user(login, name), access, turn),
+        Some(name) => log_client_in(options, login_of(login, name), access, turn),
         None => await_choice(login, &Reply::LoginFailed, turn),
     }
 }

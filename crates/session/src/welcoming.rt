@@ -41,7 +41,7 @@ fn tell_welcome<R: Repository, A: RepoAccess<View = R>, S: ReplySink>(
 }
 
 /// Welcomes a client that has logged in. Its commands are awaited.
-fn welcome<R: Repository, A: RepoAccess<View = R>, S: ReplySink>(
+pub fn welcome<R: Repository, A: RepoAccess<View = R>, S: ReplySink>(
     client: Client,
     access: &mut A,
     turn: &mut Turn<S>,

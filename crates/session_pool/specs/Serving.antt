@@ -3,6 +3,7 @@ use Rattle.std.specs.Prelude.{◌≡◌, ℕ, List, [], ◌∷◌, Option, Resul
 use Rattle.access.specs.Points.{AccessRules, Point}
 use Rattle.machine.specs.{declared.env.Env.Env, Settings.Settings}
 use Rattle.conversations.specs.{Conversation.{Served, sight}, declared.fault.TalkFault.TalkFault}
+use Rattle.session_pool.specs.Readings.{IsReadAgain}
 use Rattle.session_pool.specs.declared.{attendant.Attendant.Attendant, pool.SessionPool.SessionPool}
 
 -- the options of its sessions, the last moment of the repository that it was shown, and the source of
@@ -31,15 +32,22 @@ pub record IsServed {E : Type 0} (rules : AccessRules) (gives : E → Env → E 
   pub served : Served result rules old.settings gives (sight old.point input output old.envs)
       (sight new.point unread written new.envs)
 
--- some callers were served, one after another, and nothing else was done: so it stood after each
+-- one caller was served, by these options
+abbrev pub ServesOne : {E : Type 0} → AccessRules → (E → Env → E → Type 0) → Stand E → Stand E → Type 0
+ServesOne rules gives old new =
+    (result : Result (Unit {0}) TalkFault) × (input : Option (List ℕ)) × (output : Option (List ℕ))
+    × (unread : Option (List ℕ)) × (written : Option (List ℕ))
+    × IsServed rules gives result input output unread written old new
+
+-- some callers were served, one after another, each by the options of the start or of a later reading of the
+-- file of users, and nothing else was done: so it stood after each, with the options that it was served by
 abbrev pub ServesAll : {E : Type 0} → AccessRules → (E → Env → E → Type 0) → Stand E
     → List (Stand E) → Stand E → Type 0
 ServesAll rules gives old [] new = new ≡ old
 ServesAll rules gives old (mid ∷ later) new =
-    ((result : Result (Unit {0}) TalkFault) × (input : Option (List ℕ)) × (output : Option (List ℕ))
-    × (unread : Option (List ℕ)) × (written : Option (List ℕ))
-    × IsServed rules gives result input output unread written old mid)
-    × ServesAll rules gives mid later new
+    IsReadAgain old.settings mid.settings
+    × ServesOne rules gives (stand mid.settings old.point old.envs) mid
+    × ServesAll rules gives (stand old.settings mid.point mid.envs) later new
 
 pub record ServesInTurn {E : Type 0} (rules : AccessRules) (gives : E → Env → E → Type 0)
     (old new : Stand E) : Type 0 where

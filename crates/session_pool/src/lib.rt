@@ -6,8 +6,12 @@ mod admitting;
 mod attendant;
 mod places;
 mod pool;
+mod reading;
+mod visit;
 
 pub use admission::Admission;
 pub use attendant::{Attendant, Caller};
 pub use conversations::{Env, EnvSource, Gate, TalkFault, Watch};
 pub use pool::SessionPool;
+pub use reading::Reading;
+pub use visit::Visit;

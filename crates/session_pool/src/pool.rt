@@ -3,6 +3,8 @@
 use crate::admission::Admission;
 use crate::attendant::{Attendant, Caller};
 use crate::places::Places;
+use crate::reading::options_by;
+use crate::visit::Visit;
 use access::RepoAccess;
 use conversations::{EnvSource, Gate, TalkFault, Watch};
 use crossbeam_channel::Receiver;
@@ -37,7 +39,7 @@ impl<'p, G: Gate, W: Watch> SessionPool<'p, G, W> {
     ghost use Rattle.std.specs.Prelude.{◌≡◌};
     ghost use Rattle.access.specs.Points.{content_of};
     ghost use Rattle.repo_api.specs.Soundness.{AreSound};
-    ghost use Rattle.session_pool.specs.Serving.{ServesInTurn, settings_of, stand, stands};
+    ghost use Rattle.session_pool.specs.Serving.{ServesInTurn, ServesOne, settings_of, stand};
 
     /// Makes a pool of so many places, in which no session is open.
     pub fn new(options: &'p Options, gate: &'p G, watch: &'p W, sessions: u64) -> Self
@@ -74,50 +76,34 @@ impl<'p, G: Gate, W: Watch> SessionPool<'p, G, W> {
         self.watch.ended(number, is_halted);
     }
 
-    /// Makes what serves callers at an access to the repository, with the options of the pool.
-    pub fn attendant<A: RepoAccess + Drop, E: EnvSource + Drop, P: Presence>(
-        &self,
-        alloc: Global,
-        desk: (A, E),
-    ) -> Attendant<'p, A, E, G, W, P>
-        ensures { stands A.point result ≡ stand (settings_of self.now) (A.point desk.0) desk.1 }
-    {
-        Attendant::new(alloc, self.options, desk, self.gate, self.watch)
-    }
-
-    /// Serves callers, one after another, until no more can come, and does nothing else at the repository. Once changes
-    /// have come to a halt no session begins any more.
-    pub fn work<
+    /// Serves a caller at an access to the repository by the options that are given with it, and does nothing else there. It
+    /// gives the access back, and the source of what was handed in.
+    fn serve_one<
         R: Wait,
         A: RepoAccess + Drop,
         E: EnvSource + Drop,
         I: Read + Drop,
         O: Write + Drop,
         P: Presence,
-    >(
-        &self,
-        rt: &R,
-        callers: &Receiver<Caller<I, O, P>>,
-        attendant: &mut Attendant<'p, A, E, G, W, P>,
-    )
-        requires { AreSound (content_of (stands A.point attendant.old).point).revisions }
-        ensures { ServesInTurn A.rules E.gives (stands A.point attendant.old)
-            (stands A.point attendant.new) }
+    >(&self, rt: &R, alloc: Global, given: (&Options, Caller<I, O, P>), desk: (A, E)) -> (A, E)
+        requires { AreSound (content_of (A.point desk.0)).revisions }
+        ensures sound { AreSound (content_of (A.point result.0)).revisions }
+        ensures served { ServesOne A.rules E.gives (stand given.entry.0.now (A.point desk.0) desk.1)
+            (stand given.entry.0.now (A.point result.0) result.1) }
     {
-        for _ in rt.forever() {
-            let Ok(mut caller) = callers.recv(rt) else {
-                return;
-            };
-            let number = caller.number();
-            let done = attendant.serve(&mut caller);
-            // a connection that fails is closed
-            drop(caller);
-            self.end(rt, number, done, attendant.is_halted());
-        }
+        let (options, mut caller) = given;
+        let mut attendant = Attendant::new(alloc, options, desk, self.gate, self.watch);
+        let number = caller.number();
+        let done = attendant.serve(&mut caller);
+        // a connection that fails is closed
+        drop(caller);
+        self.end(rt, number, done, attendant.is_halted());
+        attendant.into_desk()
     }
 
-    /// Serves callers at an access to the repository, one after another, until no more can come, with the options of the
-    /// pool, and does nothing else there. It gives the access back, and the source of what was handed in.
+    /// Serves callers at an access to the repository, one after another, until no more can come, each by the options of the
+    /// reading that it comes with, and does nothing else there. It gives the access back, and the source of what was handed in.
+    #[tactic(auto, using(crate::proofs::InTurn::serves_none))]
     pub fn serve_at<
         R: Wait,
         A: RepoAccess + Drop,
@@ -125,14 +111,21 @@ impl<'p, G: Gate, W: Watch> SessionPool<'p, G, W> {
         I: Read + Drop,
         O: Write + Drop,
         P: Presence,
-    >(&self, rt: &R, alloc: Global, callers: &Receiver<Caller<I, O, P>>, desk: (A, E)) -> (A, E)
+    >(&self, rt: &R, alloc: Global, visits: &Receiver<Visit<I, O, P>>, desk: (A, E)) -> (A, E)
         requires { AreSound (content_of (A.point desk.0)).revisions }
         ensures { ServesInTurn A.rules E.gives
             (stand (settings_of self.now) (A.point desk.0) desk.1)
             (stand (settings_of self.now) (A.point result.0) result.1) }
     {
-        let mut attendant = self.attendant(alloc, desk);
-        self.work(rt, callers, &mut attendant);
-        attendant.into_desk()
+        let mut served = desk;
+        for _ in rt.forever() {
+            let Ok(visit) = visits.recv(rt) else {
+                break;
+            };
+            let (reading, caller) = visit.into_parts();
+            let options = options_by(self.options, &reading);
+            served = self.serve_one(rt, alloc, (options, caller), served);
+        }
+        served
     }
 }

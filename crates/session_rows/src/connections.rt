@@ -2,7 +2,7 @@
 use conversations::{Env, EnvSource};
 use crossbeam_channel::{Receiver, Sender, unbounded};
 use presence::{Connection, Presence};
-use session_pool::Caller;
+use session_pool::{Caller, Visit};
 use std::alloc::Global;
 use std::io;
 use std::io::{ErrorKind, Read, Write};
@@ -148,8 +148,8 @@ fn stands_in(text: &[u8], part: &[u8]) -> bool {
     false
 }
 
-/// A caller over a connection in memory.
-pub(crate) type MemoryCaller<'a, R> = Caller<Sent<'a, R>, Told<'a, R>, Connection>;
+/// A caller over a connection in memory, on its way to a worker.
+pub(crate) type MemoryVisit<'a, R> = Visit<Sent<'a, R>, Told<'a, R>, Connection>;
 
 /// What a caller sends, piece by piece and then no more; the client that is told; and how many bytes it takes.
 #[derive(Clone, Copy)]
@@ -159,13 +159,13 @@ pub(crate) struct Call<'a> {
     pub(crate) room: usize,
 }
 
-/// Makes the caller of this number.
-fn caller_of<'a, R: Abort + Wait>(
+/// Makes the visit of the caller of this number, with the options of its pool.
+fn visit_of<'a, R: Abort + Wait>(
     rt: &'a R,
     alloc: Global,
     number: u64,
     call: Call<'a>,
-) -> MemoryCaller<'a, R> {
+) -> MemoryVisit<'a, R> {
     let (say, hear) = unbounded(alloc).expect(rt, "memory");
     for piece in call.pieces {
         let piece = Vec::from_slice(alloc, piece).expect(rt, "memory");
@@ -178,7 +178,10 @@ fn caller_of<'a, R: Abort + Wait>(
         client: call.client,
         room: call.room,
     };
-    Caller::new(number, input, output, Connection::nobody())
+    Visit::new(
+        None,
+        Caller::new(number, input, output, Connection::nobody()),
+    )
 }
 
 /// Sends callers to the workers, numbered from 1 on, and then no more.
@@ -186,13 +189,13 @@ pub(crate) fn callers<'a, R: Abort + Wait>(
     rt: &'a R,
     alloc: Global,
     calls: &[Call<'a>],
-) -> Receiver<MemoryCaller<'a, R>> {
+) -> Receiver<MemoryVisit<'a, R>> {
     let (to, from) = unbounded(alloc).expect(rt, "memory");
     let mut number = 0u64;
     for call in calls {
         number = number.wrapping_add(1);
-        let caller = caller_of(rt, alloc, number, *call);
-        to.send(rt, caller).expect(rt, "a worker");
+        let visit = visit_of(rt, alloc, number, *call);
+        to.send(rt, visit).expect(rt, "a worker");
     }
     drop(to);
     from

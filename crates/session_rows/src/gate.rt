@@ -4,7 +4,7 @@ ghost use Rattle.access.specs.Points.{content_of};
 ghost use Rattle.published.specs.Events.{point_of};
 ghost use Rattle.repo_api.specs.Soundness.{AreSound};
 
-use crate::connections::{AT_ZERO, Call, Client, LOGIN, MemoryCaller, NEVER, WELCOME, callers};
+use crate::connections::{AT_ZERO, Call, Client, LOGIN, MemoryVisit, NEVER, WELCOME, callers};
 use crate::repositories::{desks_at, empty_repository};
 use conversations::{Awaited, Gate, Unwatched};
 use crossbeam_channel::Receiver;
@@ -89,7 +89,7 @@ fn work_still<R, F, S, J, G>(
     rt: &R,
     alloc: Global,
     pool: &SessionPool<'_, G, Unwatched>,
-    callers: &Receiver<MemoryCaller<'_, R>>,
+    callers: &Receiver<MemoryVisit<'_, R>>,
     desk: Desk<'_, R, F, S, J>,
 )
 where
@@ -109,7 +109,7 @@ fn serve_in_threads<R, J, G>(
     rt: &R,
     alloc: Global,
     pool: &SessionPool<'_, G, Unwatched>,
-    callers: &Receiver<MemoryCaller<'_, R>>,
+    callers: &Receiver<MemoryVisit<'_, R>>,
     desks: Vec<Desk<'_, R, FiledWorld, MemoryStore, J>>,
 )
 where

@@ -4,7 +4,7 @@ ghost use Rattle.access.specs.Points.{content_of};
 ghost use Rattle.published.specs.Events.{point_of};
 ghost use Rattle.repo_api.specs.Soundness.{AreSound};
 
-use crate::connections::{MemoryCaller, Still};
+use crate::connections::{MemoryVisit, Still};
 use conversations::{Gate, Watch};
 use crossbeam_channel::Receiver;
 use filed_opening::{FolderRepository, create, open, opened_trees_are_sound};
@@ -53,7 +53,7 @@ pub(crate) fn work_alone<F: SoundTrees, S: Store, G: Gate, W: Watch, R: Wait>(
     rt: &R,
     alloc: Global,
     pool: &SessionPool<'_, G, W>,
-    callers: &Receiver<MemoryCaller<'_, R>>,
+    callers: &Receiver<MemoryVisit<'_, R>>,
     (stored, envs): (StoredRepository<F, S>, Still),
 ) {
     stored.repository().trees_are_sound();

@@ -10,7 +10,7 @@ use Rattle.hub_runs.specs.Asked.{AreAll, IsAsked}
 use Rattle.hub_runs.proofs.Effects.{does, leaves}
 use Rattle.conversations.specs.{Pieces.Piece, declared.fault.TalkFault.TalkFault, declared.fault.TalkFault.TheVariants.{Read, Write, TooLong, NoMemory}}
 use Rattle.conversations.specs.Conversation.{Breaks, Converses, PiecesAt, Served, Sight, sight}
-use Rattle.session_pool.specs.Serving.{IsServed, ServesAll, ServesInTurn, Stand}
+use Rattle.session_pool.specs.Serving.{IsServed, ServesAll, ServesInTurn, Stand, stand}
 use Rattle.shared_runs.specs.Own.{OwnChanges, OwnInTurn, OwnLast, OwnOfBroken, OwnOfSession, OwnPieces}
 
 module _ (rules : AccessRules) (others : (p q : Point) → rules.between p q → q.own ≡ p.own)
@@ -129,12 +129,12 @@ module _ (rules : AccessRules) (others : (p q : Point) → rules.between p q →
     of_all : (old : Stand E) (turns : List (Stand E)) (new : Stand E) → ServesAll rules gives old turns new
         → (later : List (List Accepted)) × OwnInTurn old.settings old.point.own later new.point.own
     of_all old [] new same = ([], ap (λ (x : Stand E). x.point.own) same)
-    of_all old (mid ∷ turns) new ((result, input, output, unread, written, one), later) =
-        let rest = of_all mid turns new later in (
+    of_all old (mid ∷ turns) new (again, (result, input, output, unread, written, one), later) =
+        let rest = of_all (stand old.settings mid.point mid.envs) turns new later in (
           mid.point.own ∷ rest.0,
           (
-            of_caller result input output unread written old mid one,
-            subst (λ (s : Settings). OwnInTurn s mid.point.own rest.0 new.point.own) one.settings rest.1,
+            (mid.settings, again, of_caller result input output unread written (stand mid.settings old.point old.envs) mid one),
+            rest.1,
           ),
         )
 

@@ -8,10 +8,11 @@ ghost use Rattle.seat_calls.specs.Calls.{Answers, CallsUnderLock};
 
 use access::{Committed, NotCommitted};
 use archives::Archive;
-use keepers::{Keeper, Seat};
+use keepers::Keeper;
 use left_right::Absorb;
 use published::{Carries, Naming, NewHistory, Published, Sets, Setting, Shown};
 use repo_api::{ChangeFault, CommitAsk, LockAsk, PropertyAsk, Repository, UnlockAsk};
+use seats::Seat;
 use std::alloc::{AllocError, Global};
 use std::sync::atomic::{AtomicBool, Ordering};
 use std::sync::{Mutex, Wait};

@@ -1,7 +1,7 @@
 //! Serves a Subversion repository.
 #![tactic(auto)]
 
-ghost use Rattle.std.specs.Prelude.{◌≡◌, IfOk, None};
+ghost use Rattle.std.specs.Prelude.{◌≡◌, IfOk, None, option_map, string_bytes};
 ghost use Rattle.serving.specs.Asked.{CountsAreAsked, OptionsAreAsked};
 
 mod asking;
@@ -14,7 +14,8 @@ mod told;
 mod version;
 
 use asking::tell_status;
-use command_line::{CommandLineFault, Location, Order, Service, read_command_line};
+use byte_string::ByteString;
+use command_line::{CommandLineFault, Location, Order, Service, SoleSession, read_command_line};
 use fault::ProgramFault;
 use filed_opening::FolderRepository;
 use folder_hub::FolderHub;
@@ -22,9 +23,9 @@ use hub::{HubFault, Options, is_repository_name};
 use migrating::migrate_folder;
 use published::NewHistory;
 use repositories::{DiskStore, create_in_folder, empty_hub, folder_hub, open_folder};
-use serving::{Reason, Settings, SystemEnvs, read_settings};
+use serving::{Reason, Server, Settings, SystemEnvs, UsersFile, read_settings};
 use sharing::serve_shared;
-use std::alloc::Global;
+use std::alloc::{AllocError, Global};
 use std::env;
 use std::io::ErrorKind;
 use std::marker::Brand;
@@ -64,16 +65,35 @@ fn order(rt: &HostRuntime) -> Result<Option<Order>, ProgramFault> {
     }
 }
 
-/// Makes the options of a repository of this name, whose clients may change the properties of revisions or not.
-fn options(alloc: Global, name: &str, revprops: bool) -> Result<Options, ProgramFault>
-    ensures { IfOk result (λ o. o
-        ≡ record { name = name.now; users = None; revprops = revprops }) }
+/// Makes the name of the account that a client came as, if it is said.
+fn account_of(alloc: Global, session: &SoleSession) -> Result<Option<ByteString>, AllocError>
+    ensures { IfOk result (λ account. account ≡ option_map string_bytes session.now.account) }
 {
-    if !is_repository_name(name) {
+    match &session.account {
+        Some(account) => Ok(Some(ByteString::from_slice(alloc, account.as_bytes())?)),
+        None => Ok(None),
+    }
+}
+
+/// Makes the options of one session.
+fn options(alloc: Global, session: &SoleSession) -> Result<Options, ProgramFault>
+    ensures { IfOk result (λ o. o ≡ record {
+      name = string_bytes session.now.name;
+      account = option_map string_bytes session.now.account;
+      users = None;
+      revprops = session.now.revprops;
+    }) }
+{
+    if !is_repository_name(session.name.as_str()) {
         return Err(ProgramFault::Name);
     }
-    let options = Options::new(alloc, name)?;
-    Ok(if revprops {
+    let account = account_of(alloc, session)?;
+    let options = Options::new(alloc, session.name.as_str())?;
+    let options = match account {
+        Some(account) => options.with_account(account),
+        None => options,
+    };
+    Ok(if session.revprops {
         options.with_revprops()
     } else {
         options
@@ -92,26 +112,32 @@ fn serve<S: Store>(rt: &HostRuntime, mut hub: FolderHub<S>) -> Result<(), Progra
 /// Makes the hub of an empty repository in memory, with the options that are asked for.
 fn hub_in_memory(
     alloc: Global,
-    name: &str,
-    revprops: bool,
+    session: &SoleSession,
 ) -> Result<FolderHub<MemoryStore>, ProgramFault>
-    ensures { IfOk result (λ hub. hub.settings
-        ≡ record { name = name.now; users = None; revprops = revprops }) }
+    ensures { IfOk result (λ hub. hub.settings ≡ record {
+      name = string_bytes session.now.name;
+      account = option_map string_bytes session.now.account;
+      users = None;
+      revprops = session.now.revprops;
+    }) }
 {
-    empty_hub(alloc, options(alloc, name, revprops)?)
+    empty_hub(alloc, options(alloc, session)?)
 }
 
 /// Makes the hub of the repository in a folder, with the options that are asked for.
 fn hub_in_folder(
     rt: &HostRuntime,
     folder: &String,
-    name: &str,
-    revprops: bool,
+    session: &SoleSession,
 ) -> Result<FolderHub<DiskStore>, ProgramFault>
-    ensures { IfOk result (λ hub. hub.settings
-        ≡ record { name = name.now; users = None; revprops = revprops }) }
+    ensures { IfOk result (λ hub. hub.settings ≡ record {
+      name = string_bytes session.now.name;
+      account = option_map string_bytes session.now.account;
+      users = None;
+      revprops = session.now.revprops;
+    }) }
 {
-    folder_hub(rt, folder, options(rt.alloc(), name, revprops)?)
+    folder_hub(rt, folder, options(rt.alloc(), session)?)
 }
 
 /// Makes the fault of an order that cannot be served, with its text.
@@ -122,16 +148,11 @@ fn not_served(alloc: Global, text: &str) -> ProgramFault {
     }
 }
 
-/// Serves one session over the standard streams, on the repository of this name at a location.
-fn serve_one(
-    rt: &HostRuntime,
-    location: &Location,
-    name: &str,
-    revprops: bool,
-) -> Result<(), ProgramFault> {
-    match location {
-        Location::Memory => serve(rt, hub_in_memory(rt.alloc(), name, revprops)?),
-        Location::Folder(folder) => serve(rt, hub_in_folder(rt, folder, name, revprops)?),
+/// Serves one session over the standard streams.
+fn serve_one(rt: &HostRuntime, session: &SoleSession) -> Result<(), ProgramFault> {
+    match &session.location {
+        Location::Memory => serve(rt, hub_in_memory(rt.alloc(), session)?),
+        Location::Folder(folder) => serve(rt, hub_in_folder(rt, folder, session)?),
     }
 }
 
@@ -193,22 +214,27 @@ fn main(rt: HostRuntime) -> ExitCode {
         Order::Migrate { folder, new, quiet } => {
             migrate_folder(&rt, folder.as_str(), new.as_str(), *quiet)
         }
-        Order::Stdio {
-            location,
-            name,
-            revprops,
-        } => serve_one(&rt, location, name.as_str(), *revprops),
+        Order::Stdio(session) => serve_one(&rt, session),
         // threads are started by who has the runtime of `main`
-        Order::Serve(service) => match prepare(&rt, service) {
-            Ok((settings, stored)) => serve_shared::<Brand, HostRuntime>(
-                &rt,
-                rt.alloc(),
-                &settings,
-                stored,
-                NewHistory::new(),
-            ),
-            Err(fault) => Err(fault),
-        },
+        Order::Serve(service) => {
+            let users = UsersFile::new(&rt, rt.alloc(), service);
+            match prepare(&rt, service) {
+                Ok((settings, stored)) => {
+                    let server = Server {
+                        rt: &rt,
+                        alloc: rt.alloc(),
+                        settings: &settings,
+                    };
+                    serve_shared::<Brand, HostRuntime, _>(
+                        &server,
+                        &users,
+                        stored,
+                        NewHistory::new(),
+                    )
+                }
+                Err(fault) => Err(fault),
+            }
+        }
         Order::Status { address, name } => tell_status(&rt, address.as_str(), name.as_str()),
         Order::Version => tell_version(&rt),
     };

@@ -6,7 +6,7 @@ use crate::repositories::{DiskStore, files_folder, open_files};
 use command_line::NewFormat;
 use filed_opening::{copy_repository, judged};
 use fsfs_lines::FileFault;
-use repostore::Progress;
+use repository_creation::Progress;
 use std::fs;
 use std::io::IsTerminal;
 use store_files::{Store, StoreFault};

@@ -6,8 +6,7 @@ use crate::repositories::DiskStore;
 use filed_opening::{FolderRepository, opened_trees_are_sound};
 use filed_world::FiledWorld;
 use published::{Naming, NewHistory};
-use serving::{Server, Settings, desks_of, serve};
-use std::alloc::Global;
+use serving::{Readings, Server, desks_of, serve};
 use std::fs::Files;
 use std::io::{Eprint, Print};
 use std::net::{Net, TcpListener, TcpStream};
@@ -16,16 +15,16 @@ use std::sync::Wait;
 use std::thread::Threads;
 use std::time::Clock;
 
-/// Serves sessions over TCP at a repository that was opened.
-pub fn serve_shared<J, R>(
-    rt: &R,
-    alloc: Global,
-    settings: &Settings,
+/// Serves sessions over TCP at a repository that was opened, by the users of a file that is read anew where it has changed.
+pub fn serve_shared<J, R, N>(
+    server: &Server<'_, R>,
+    readings: &N,
     stored: FolderRepository<DiskStore>,
     history: NewHistory,
 ) -> Result<(), ProgramFault>
 where
     J: Naming + Send + Sync + 'static,
+    N: Readings,
     R: Net<Listener = TcpListener, Stream = TcpStream>
         + Clock
         + Eprint
@@ -38,13 +37,9 @@ where
     requires { history.seen.book ≡ J.book }
 {
     opened_trees_are_sound(stored.repository());
-    let sessions = settings.sessions;
+    let (rt, alloc) = (server.rt, server.alloc);
+    let sessions = server.settings.sessions;
     let desks = desks_of::<R, FiledWorld, DiskStore, J>(rt, alloc, stored, history, sessions)?;
-    let server = Server {
-        rt,
-        alloc,
-        settings,
-    };
-    serve(&server, desks)?;
+    serve(server, readings, desks)?;
     Ok(())
 }

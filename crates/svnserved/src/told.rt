@@ -4,7 +4,7 @@ use crate::fault::{ProgramFault, STORE_FAILED};
 use command_line::{Location, Order};
 use fsfs_lines::FileFault;
 use health::AskFault;
-use serving::{Reason, ServingFault};
+use serving::{INVALID_LINE, Reason, ServingFault, UNREADABLE};
 use std::fmt;
 use store_files::{FileName, StoreFault};
 use store_folder::FolderFault;
@@ -60,13 +60,9 @@ impl<'a> Named<'a> {
                 new: new.as_str(),
                 ..nothing
             },
-            Order::Stdio {
-                location,
-                name,
-                revprops: _,
-            } => Named {
-                folder: folder_of(location),
-                name: name.as_str(),
+            Order::Stdio(session) => Named {
+                folder: folder_of(&session.location),
+                name: session.name.as_str(),
                 ..nothing
             },
             Order::Serve(service) => Named {
@@ -170,13 +166,8 @@ impl<'a> Named<'a> {
         match fault {
             ServingFault::Name => plain_place("--name is ", self.name),
             ServingFault::Address(place) => plain_place("--listen is ", self.listen_at(*place)),
-            ServingFault::Users(_) => plain_place(
-                "that line is not valid in the file of users ",
-                self.users,
-            ),
-            ServingFault::UsersFile(reason) => {
-                failed_place("cannot read the file of users ", self.users, *reason)
-            }
+            ServingFault::Users(_) => plain_place(INVALID_LINE, self.users),
+            ServingFault::UsersFile(reason) => failed_place(UNREADABLE, self.users, *reason),
             ServingFault::Listening(place, reason) => failed_place(
                 "cannot listen at ",
                 self.listen_at(*place),

@@ -9,7 +9,7 @@ use Rattle.repo_api.specs.declared.entry.Mark.TheVariants.{Open, Made}
 use Rattle.noderevs.specs.{Nodes.{kid_at, Look}, Views.shared_entry, declared.node_rev.NodeId.NodeId, declared.node_rev.NodeRev.NodeRev}
 use Rattle.txntree.specs.{Changes.{first_of, IsWalking}, Spots.{change_spot, changed_at, entry, find, flat, open_entry, over, shared_spot, Spot}}
 use Rattle.txntree.specs.{Spots.Spot.Opened, Walks.beneath, declared.open.OpenNode.OpenNode, declared.open.Change.Change}
-use Rattle.treemerge.specs.Merges.{merged_open, IsTold, spot_tree, IsMergeOf, IsCopied, IsMerged, is_one}
+use Rattle.treemerge.specs.Merges.{merged_open, IsTold, spot_tree, IsMergeOf, IsMerged, is_one}
 use Rattle.txntree.proofs.Seals.{nothing}
 
 same_number : (n : ℕ) → (n == n) ≡ true
@@ -100,18 +100,6 @@ top x s z one last = (
     left : is_untouched (Some x) (Some s) ≡ true
     left = ap (λ b. b && (same_mark x.last s.last || is_open_mark s.last)) (own_of (is_directory x && is_directory s && is_directory z) (same_mark x.own s.own) (same_mark x.own z.own) one)
         ∙ ap (λ m. same_mark x.last m || is_open_mark m) last ∙ or_true (same_mark x.last Open)
-
-copied_same : (look : Look) (self new : OpenNode) (m : BTreeMap Component Change) → open_entry new ≡ open_entry self → new.base ≡ self.base → new.changed ≡ m
-    → ((n : Component) → IsCopied self n (changed_at m n)) → (q : PathValue) → flat look (Opened new) q ≡ flat look (Opened self) q
-copied_same look self new m same base map copies [] = ap Some same
-copied_same look self new m same base map copies (n ∷ q) =
-    ap (λ b. entry look (find look q (over (changed_at new.changed n) (shared_spot (kid_at look b n))))) base
-    ∙ ap (λ x. entry look (find look q (over (changed_at x n) (shared_spot (kid_at look self.base n))))) map
-    ∙ copies n look (shared_spot (kid_at look self.base n)) q
-
-pub copied_ends : (self new : OpenNode) (left : List (Component × Change)) (m : BTreeMap Component Change) → open_entry new ≡ open_entry self → new.base ≡ self.base → new.changed ≡ m
-    → left ≡ [] → IsWalking self left m (IsCopied self) → (look : Look) (q : PathValue) → flat look (Opened new) q ≡ flat look (Opened self) q
-copied_ends self new left m same base map end so look q = copied_same look self new m same base map (λ n. so.done n (ap (λ es. first_of es n) end)) q
 
 pub beneath_shared : (look : Look) (o : Option NodeId) (n : Component) → beneath n (spot_tree look o) ≡ spot_tree look (kid_at look o n)
 beneath_shared look None n = refl

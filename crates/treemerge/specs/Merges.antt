@@ -27,12 +27,6 @@ IsMergeOf look spot a s t =
     (q : PathValue)
     → (flat look spot q ≡ merged_open (a q) (s q) (t q)) × (is_in_conflict (a q) (s q) (t q) ≡ false)
 
--- the same node to whoever looks
-abbrev pub IsCopied : OpenNode → Component → Option Change → Type 0
-IsCopied self n o =
-    (look : Look) (below : Spot) (q : PathValue) → flat look (over o below) q
-    ≡ flat look (over (changed_at self.changed n) below) q
-
 abbrev pub IsMerged : Look → OpenNode → Option NodeId → Option NodeId → Component → Option Change → Type 0
 IsMerged look self base young n o =
     IsTold (spot_tree look base) (flat look (Opened self)) → self.base ≡ base

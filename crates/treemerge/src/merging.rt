@@ -2,7 +2,7 @@
 ghost use Rattle.std.specs.Prelude.{◌≡◌, IfOk, IfSome, IsTrue, [], None, true, false, option_copied, option_map, ℕ};
 ghost use Rattle.svnpath.specs.Paths.{PathValue};
 ghost use Rattle.repo_api.specs.{Merge.{HasNoConflict, is_in_conflict, merged, sealed}, Trees.{is_directory_content, same_mark}};
-ghost use Rattle.noderevs.specs.{Held.{node_at, root_at, trees_of}, Nodes.{Look, mark_of}};
+ghost use Rattle.noderevs.specs.{Held.{node_at, root_at, trees_of}, Nodes.mark_of};
 ghost use Rattle.txntree.specs.{Spots.{change_spot, flat, over, shared_spot}, Spots.Spot.Opened, Whole.{IsSound, txn_tree}};
 ghost use Rattle.treemerge.specs.Merges.{IsTold, spot_tree, IsMergeOf, IsMergeable, IsConflictUnder, IfConflict, IsKept, is_one};
 
@@ -10,6 +10,7 @@ use noderevs::{Made, NodeId, NodeRev, Nodes};
 use repo_api::{Content, Mark};
 use std::alloc::{AllocError, Global};
 use std::collections::BTreeMap;
+use std::mem::drop;
 use std::sync::Arc;
 use svnpath::Path;
 use txntree::{Change, OpenNode, TxnTree, put_change};
@@ -42,29 +43,29 @@ impl From<AllocError> for MergeFault {
 }
 
 /// Merges the changes of a transaction, which began from a revision, with the youngest revision. Whether nodes are the
-/// same is told by their ids, and what is the same is passed over.
+/// same is told by their ids, and what is the same is passed over: what the transaction has there stays as it is.
 pub fn merge(
     alloc: Global,
     nodes: &Nodes,
     base: u64,
-    txn: &TxnTree,
+    txn: TxnTree,
     youngest: u64,
 ) -> Result<TxnTree, MergeFault>
-    requires told { IsTold (trees_of nodes.now base) (txn_tree nodes.now txn.now) }
-    requires sound { IsSound (node_at nodes.now) (root_at nodes.now base) txn.now }
+    requires told { IsTold (trees_of nodes.now base) (txn_tree nodes.now txn) }
+    requires sound { IsSound (node_at nodes.now) (root_at nodes.now base) txn }
     ensures merged { IfOk result (λ t. (n : ℕ) (q : PathValue)
         → option_map (sealed n q) (txn_tree nodes.now t q)
-        ≡ merged n (trees_of nodes.now base) (txn_tree nodes.now txn.now) (trees_of nodes.now youngest) q) }
+        ≡ merged n (trees_of nodes.now base) (txn_tree nodes.now txn) (trees_of nodes.now youngest) q) }
     ensures clean { IfOk result (λ t. HasNoConflict (trees_of nodes.now base)
-        (txn_tree nodes.now txn.now) (trees_of nodes.now youngest)) }
+        (txn_tree nodes.now txn) (trees_of nodes.now youngest)) }
     ensures conflict { IfConflict result (λ p. is_in_conflict (trees_of nodes.now base p)
-        (txn_tree nodes.now txn.now p) (trees_of nodes.now youngest p) ≡ true) }
+        (txn_tree nodes.now txn p) (trees_of nodes.now youngest p) ≡ true) }
 {
     let places = Places {
         base: nodes.root(base),
         young: nodes.root(youngest),
     };
-    let root = merged(&txn.root, alloc, nodes, places, &Path::root(alloc))?;
+    let root = merged(txn.into_root(), alloc, nodes, places, &Path::root(alloc))?;
     Ok(TxnTree { root })
 }
 
@@ -72,41 +73,42 @@ pub fn merge(
 /// there when the transaction began.
 #[cycle(merge)]
 pub(crate) fn merged(
-    node: &OpenNode,
+    node: OpenNode,
     alloc: Global,
     nodes: &Nodes,
     places: Places,
     path: &Path,
 ) -> Result<OpenNode, MergeFault>
     ensures ok { IsTold (spot_tree (node_at nodes.now) places.base)
-        (flat (node_at nodes.now) (Opened node.now))
+        (flat (node_at nodes.now) (Opened node))
         → IfOk result (λ n. IsMergeOf (node_at nodes.now) (Opened n)
         (spot_tree (node_at nodes.now) places.base)
-        (flat (node_at nodes.now) (Opened node.now))
+        (flat (node_at nodes.now) (Opened node))
         (spot_tree (node_at nodes.now) places.young)) }
-    ensures conflict { IsMergeable (node_at nodes.now) places (Opened node.now)
+    ensures conflict { IsMergeable (node_at nodes.now) places (Opened node)
         → IfConflict result (IsConflictUnder path.now
         (spot_tree (node_at nodes.now) places.base)
-        (flat (node_at nodes.now) (Opened node.now))
+        (flat (node_at nodes.now) (Opened node))
         (spot_tree (node_at nodes.now) places.young)) }
 {
     if is_same(places.base, places.young) {
-        return Ok(copied(node, alloc)?);
+        return Ok(node);
     }
-    let Some(theirs) = younger(node, nodes, places) else {
+    let Some(theirs) = younger(&node, nodes, places) else {
+        drop(node);
         return Err(MergeFault::Conflict(path.clone()?));
     };
     let mut changed = BTreeMap::new(alloc);
-    for (name, change) in &node.changed {
+    for (name, change) in node.changed {
         let below = path.child(alloc, name.clone()?)?;
-        let was = nodes.kid(places.base, name);
-        let now = nodes.kid(places.young, name);
+        let was = nodes.kid(places.base, &name);
+        let now = nodes.kid(places.young, &name);
         let kids = Places {
             base: was,
             young: now,
         };
         if let Some(kept) = merged_change(change, alloc, nodes, kids, &below)? {
-            put_change(&mut changed, name.clone()?, kept)?;
+            put_change(&mut changed, name, kept)?;
         }
     }
     Ok(OpenNode {
@@ -144,22 +146,22 @@ fn younger<'a>(node: &OpenNode, nodes: &'a Nodes, places: Places) -> Option<&'a 
 /// Makes what a transaction changed at an entry into a change over the entry that is at this path now.
 #[cycle(merge)]
 fn merged_change(
-    change: &Change,
+    change: Change,
     alloc: Global,
     nodes: &Nodes,
     places: Places,
     path: &Path,
 ) -> Result<Option<Change>, MergeFault>
     ensures ok { IsTold (spot_tree (node_at nodes.now) places.base)
-        (flat (node_at nodes.now) (change_spot change.now))
+        (flat (node_at nodes.now) (change_spot change))
         → IfOk result (λ kept. IsMergeOf (node_at nodes.now) (over kept (shared_spot places.young))
         (spot_tree (node_at nodes.now) places.base)
-        (flat (node_at nodes.now) (change_spot change.now))
+        (flat (node_at nodes.now) (change_spot change))
         (spot_tree (node_at nodes.now) places.young)) }
-    ensures conflict { IsMergeable (node_at nodes.now) places (change_spot change.now)
+    ensures conflict { IsMergeable (node_at nodes.now) places (change_spot change)
         → IfConflict result (IsConflictUnder path.now
         (spot_tree (node_at nodes.now) places.base)
-        (flat (node_at nodes.now) (change_spot change.now))
+        (flat (node_at nodes.now) (change_spot change))
         (spot_tree (node_at nodes.now) places.young)) }
 {
     match change {
@@ -185,40 +187,6 @@ fn is_one(node: &OpenNode, was: &NodeRev, theirs: &NodeRev) -> bool
 {
     (is_directory(&was.content) && is_directory(&node.content) && is_directory(&theirs.content))
         && (is_own(&was.own, &node.own) && same_own(&was.own, &theirs.own))
-}
-
-/// Makes a copy of a node and those under it.
-#[cycle(copied)]
-fn copied(node: &OpenNode, alloc: Global) -> Result<OpenNode, AllocError>
-    ensures { IfOk result (λ n. (look : Look) (q : PathValue) → flat look (Opened n) q
-        ≡ flat look (Opened node.now) q) }
-{
-    let mut changed = BTreeMap::new(alloc);
-    for (name, change) in &node.changed {
-        put_change(&mut changed, name.clone()?, copied_change(change, alloc)?)?;
-    }
-    Ok(OpenNode {
-        own: node.own.clone()?,
-        content: Arc::try_clone(&node.content)?,
-        properties: Arc::try_clone(&node.properties)?,
-        base: node.base,
-        changed,
-    })
-}
-
-/// Makes a copy of a change, with the nodes under it.
-#[cycle(copied)]
-fn copied_change(change: &Change, alloc: Global) -> Result<Change, AllocError>
-    ensures { IfOk result (λ c. (look : Look) (q : PathValue) → flat look (change_spot c) q
-        ≡ flat look (change_spot change.now) q) }
-{
-    match change {
-        Change::Gone => Ok(Change::Gone),
-        Change::Is(node) => {
-            let copy = copied(node, alloc)?;
-            Ok(Change::Is(copy))
-        }
-    }
 }
 
 /// Says whether the content is a directory's, and not a file's.

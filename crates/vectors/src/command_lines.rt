@@ -1,5 +1,5 @@
 // Which command lines are read, and as what.
-use command_line::{CommandLineFault, Location, Order, Service, read_command_line};
+use command_line::{CommandLineFault, Location, Order, Service, SoleSession, read_command_line};
 use std::alloc::Global;
 use std::process::Abort;
 
@@ -33,6 +33,22 @@ fn joined(rt: &impl Abort, alloc: Global, words: &[String]) -> String {
     text
 }
 
+/// Gives one session over the standard streams as one text.
+fn sole(rt: &impl Abort, alloc: Global, session: &SoleSession) -> String {
+    let SoleSession {
+        location,
+        name,
+        account,
+        revprops,
+    } = session;
+    let location = located(location);
+    let text = match account {
+        Some(account) => format!(in alloc; "stdio {location} {name} {revprops} {account}"),
+        None => format!(in alloc; "stdio {location} {name} {revprops}"),
+    };
+    text.expect(rt, "memory")
+}
+
 /// Gives sessions over TCP as one text.
 fn served(rt: &impl Abort, alloc: Global, service: &Service) -> String {
     let Service {
@@ -64,14 +80,7 @@ fn ordered(rt: &impl Abort, alloc: Global, order: &Order) -> String {
         Order::Migrate { folder, new, quiet } => {
             format!(in alloc; "migrate {folder} {new} {quiet}")
         }
-        Order::Stdio {
-            location,
-            name,
-            revprops,
-        } => {
-            let location = located(location);
-            format!(in alloc; "stdio {location} {name} {revprops}")
-        }
+        Order::Stdio(session) => Ok(sole(rt, alloc, session)),
         Order::Serve(service) => Ok(served(rt, alloc, service)),
         Order::Status { address, name } => format!(in alloc; "status {address} {name}"),
         Order::Version => String::from_str(alloc, "version"),
@@ -99,7 +108,7 @@ fn is_asked(rt: &impl Abort, alloc: Global, line: &str, wanted: &str) -> bool {
     is_order(rt, alloc, &read(rt, alloc, line), wanted)
 }
 
-static LINES: [(&str, &str); 26] = [
+static LINES: [(&str, &str); 28] = [
     ("svnserved stdio - --name r", "stdio in memory r false"),
     ("svnserved stdio --name=r -", "stdio in memory r false"),
     (
@@ -111,6 +120,14 @@ static LINES: [(&str, &str); 26] = [
         "stdio in memory r true",
     ),
     ("svnserved stdio folder --name r", "stdio folder r false"),
+    (
+        "svnserved stdio folder --name r --tunnel-user alice",
+        "stdio folder r false alice",
+    ),
+    (
+        "svnserved stdio --tunnel-user=al,ice --revprops --name r -",
+        "stdio in memory r true al,ice",
+    ),
     ("svnserved create folder", "create folder 3"),
     ("svnserved create --format 2 folder", "create folder 2"),
     ("svnserved create folder --format=3", "create folder 3"),
@@ -173,7 +190,7 @@ fn reads_what_is_asked_for(rt: HostRuntime) {
     assert!(rt; are_read);
 }
 
-static OTHER_LINES: [&str; 52] = [
+static OTHER_LINES: [&str; 55] = [
     "svnserved",
     "svnserved stdio",
     "svnserved stdio -",
@@ -184,6 +201,9 @@ static OTHER_LINES: [&str; 52] = [
     "svnserved stdio - --name r --revprops --revprops",
     "svnserved stdio - --name r --quiet",
     "svnserved stdio - --revprops",
+    "svnserved stdio - --name r --tunnel-user",
+    "svnserved stdio - --name r --tunnel-user=",
+    "svnserved serve - --listen 127.0.0.1:1 --name r --users file --tunnel-user alice",
     "svnserved create",
     "svnserved create -",
     "svnserved create ",

@@ -15,7 +15,7 @@ use Rattle.wire_replies.specs.{declared.entries.FileInfo.FileInfo as FileInfoVal
 use Rattle.wire_replies.specs.{declared.failures.FailureLink.FailureLink, declared.histories.LogEntry.LogEntry as LogEntryValue}
 use Rattle.wire_replies.specs.declared.file_revisions.FileRevision.{FileRevision as FileRevisionValue}
 use Rattle.wire_replies.specs.{declared.histories.LoggedChange.LoggedChange, declared.reply.Offer.Offer}
-use Rattle.wire_replies.specs.{declared.reply.Offer.TheVariants.{Anonymous, AnonymousOrUser, User}, declared.reply.Reply.Reply}
+use Rattle.wire_replies.specs.{declared.reply.Offer.TheVariants.{Anonymous, AnonymousOrUser, User, External}, declared.reply.Reply.Reply}
 use Rattle.wire_replies.specs.declared.reply.Reply.TheVariants.{Greeting, NoLogin, Login, MechanismNotOffered, Challenge, LoginFailed, Success, ReposInfo}
 use Rattle.wire_replies.specs.declared.reply.Reply.TheVariants.{Revision, Kind, Properties, Lock, Locks, CommitInfo, FileInfo, Piece, DirectoryInfo, Stat}
 use Rattle.wire_replies.specs.declared.reply.Reply.TheVariants.{RevisionProperty, LogEntry, Location, Segment, FileRevision, Chunk}
@@ -44,6 +44,7 @@ abbrev pub mechanism_trees : Offer → ItemValues
 mechanism_trees Anonymous = only (word (codes "ANONYMOUS"))
 mechanism_trees AnonymousOrUser = both (word (codes "ANONYMOUS")) (word (codes "CRAM-MD5"))
 mechanism_trees User = only (word (codes "CRAM-MD5"))
+mechanism_trees External = only (word (codes "EXTERNAL"))
 
 -- `( name value ) ...`
 abbrev pub property_trees : PropertyList → ItemValues

@@ -32,6 +32,8 @@ pub enum Offer {
     AnonymousOrUser,
     /// `CRAM-MD5` alone.
     User,
+    /// `EXTERNAL` alone: a login as the account that the client came as.
+    External,
 }
 
 /// What a client is told.
@@ -322,6 +324,7 @@ fn mechanisms_item(alloc: Global, offer: Offer) -> Result<Item, AllocError>
             list_item(alloc, [anonymous, user])
         }
         Offer::User => list_item(alloc, [word_item(alloc, b"CRAM-MD5")?]),
+        Offer::External => list_item(alloc, [word_item(alloc, b"EXTERNAL")?]),
     }
 }
 

@@ -61,7 +61,7 @@ fn merged(alloc: Global, held: &Held, txn: &WorldTxn) -> Result<TxnTree, ChangeF
     ensures { MergesTxn result held.now txn.now }
 {
     let tree = held.moved(alloc, &txn.over, &txn.tree, txn.base)?;
-    match held.merged(alloc, txn.base, &tree) {
+    match held.merged(alloc, txn.base, tree) {
         Ok(merged) => Ok(merged),
         Err(CommitFault::Conflict) => Err(ChangeFault::Refused(Refusal::Conflict)),
         Err(CommitFault::NoMemory) => Err(ChangeFault::NoMemory),
@@ -108,7 +108,7 @@ fn conflict_in(alloc: Global, held: &Held, txn: &WorldTxn) -> Result<Option<Path
     ensures { IfOk result (IsConflictFor held.now txn.now) }
 {
     let tree = held.moved(alloc, &txn.over, &txn.tree, txn.base)?;
-    held.conflict(alloc, txn.base, &tree)
+    held.conflict(alloc, txn.base, tree)
 }
 
 /// Finds the path of the lock that refuses a commit of the changes, if one does.

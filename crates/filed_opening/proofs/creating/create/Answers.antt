@@ -2,7 +2,8 @@ use Rattle.std.proofs.Common.{None, Some, option_and_then, ap, ◌∙◌}
 use Rattle.fsfs_format.specs.Formats.{format_of}
 use Rattle.store_files.specs.declared.name.FileName.TheVariants.{Locks}
 use Rattle.repostore.proofs.{Reaching.format_is, Steps.{weaker, ok_gives}}
-use Rattle.repostore.specs.{Creating.{IsFreeOrHas, opening_files}, Current.count_in, Files.Files}
+use Rattle.repostore.specs.{Current.count_in, Files.Files}
+use Rattle.repository_creation.specs.Creating.{IsFreeOrHas, opening_files}
 use Rattle.filed_opening.specs.Creating.{IsFreeOrNew}
 use Rattle.filed_opening.proofs.Created.{has_new, has_new_at, free_or_new}
 use Rattle.filed_opening.proofs.creating.create.Goals as goal

@@ -1,5 +1,5 @@
 use Rattle.std.proofs.Common.{sym}
-use Rattle.flatrepo.specs.Contents.{flat_state}
+use Rattle.flat_commits.specs.Contents.{flat_state}
 use Rattle.flatrepo.proofs.repository.refusal_of.Goals as goal
 
 pub returns : goal.returns

@@ -1,7 +1,7 @@
 use Rattle.std.proofs.Common.{Option, subst}
 use Rattle.svnpath.specs.Paths.{PathValue}
 use Rattle.repo_api.specs.{Commits.IsConflictOf, RefusalLaws.{refused_by_lock, refused_in_conflict}}
-use Rattle.flatrepo.specs.{Contents.flat_state, Whole.{state_of, txn_state_of}}
+use Rattle.flat_commits.specs.{Contents.flat_state, Whole.{state_of, txn_state_of}}
 use Rattle.flatrepo.proofs.repository.refused_at.Goals as goal
 
 pub returns-in-Some : goal.returns-in-Some

@@ -3,7 +3,7 @@ use Rattle.session_replies.proofs.Steps.{only_says, stepped}
 use Rattle.session.proofs.login.end_challenge.Goals as goal
 
 pub returns-in-Some : goal.returns-in-Some
-returns-in-Some g c = rw c.in-Some.is (rw c.with_user.ensures at c.log_client_in.ensures)
+returns-in-Some g c = rw c.in-Some.is (rw c.login_of.ensures at c.log_client_in.ensures)
 
 pub returns-in-None : goal.returns-in-None
 returns-in-None g c =

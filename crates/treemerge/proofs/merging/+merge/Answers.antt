@@ -3,28 +3,27 @@ use Rattle.std.proofs.lemmas.Map.Iter.{rest_more, rest_all}
 use Rattle.treemerge.specs.{declared.merging.Places.Places, Merges.{IsTold, spot_tree, IsMergeOf, IsMerged, IsConflictUnder, IfConflict}}
 use Rattle.treemerge.proofs.Conflicts.{conflict_on, conflict_above, mergeable_entry, conflict_here, gone_conflict}
 use Rattle.treemerge.proofs.Overlays.{cut, nowhere_before, merged_here, merged_apart, merge_ends}
-use Rattle.treemerge.proofs.merging.+merge.Goals.{merged-in-Some-3+in_ok-clone-3+in_ok-put_change, merged-in_default-2}
 use Rattle.noderevs.specs.Held.{node_at}
 use Rattle.txntree.specs.{Changes.{first_of, IsWalking}, Spots.{change_spot, changed_at, flat, over, shared_spot}, Spots.Spot.Opened}
 use Rattle.txntree.specs.{declared.open.Change.Change, declared.open.OpenNode.OpenNode, declared.open.Change.TheVariants.{Is, Gone}}
 use Rattle.txntree.specs.declared.open.Change.TheViews.{roll-OpenNode}
 use Rattle.txntree.proofs.{Changes.{first_here, walk_begins, walk_goes_on, walk_passes}, Walking.{is_spot, gone_spot, nothing_there}}
-use Rattle.std.specs.{Prelude.if◌then◌else◌, BTreeMap.is_at, Map.{lookup, keys_of}, Map.Iter.deref_pair, Cmp.Lexicographic.slice_cmp, Ordering.nat_cmp}
+use Rattle.std.specs.{BTreeMap.is_at, Map.{lookup, keys_of}, Cmp.Lexicographic.slice_cmp, Ordering.nat_cmp}
 use Rattle.std.specs.List.Sorted.{IsStrictlySortedBy}
-use Rattle.svnpath.specs.Paths.{same_component}
+use Rattle.svnpath.specs.Paths.{Component}
 use Rattle.repo_api.specs.declared.entry.Mark.TheVariants.{Open, Made}
 use Rattle.treemerge.proofs.merging.+merge.Goals as goal
 
 pub merged_change-returns-then-is_same-clause-ok : goal.merged_change-returns-then-is_same-clause-ok
 merged_change-returns-then-is_same-clause-ok t c = λ told.
     let look = node_at c.args.nodes.now in
-    subst (λ y. IsMergeOf look (change_spot Gone) (spot_tree look c.args.places.base) (flat look (change_spot c.args.change.now)) (spot_tree look y)) (c.is_same.ensures.same c.if-is_same.true)
-    (cut look c.args.places.base (flat look (change_spot c.args.change.now)) (change_spot Gone) told (λ q. ap (λ x. flat look (change_spot x) q) (sym c.in-Gone.is)))
+    subst (λ y. IsMergeOf look (change_spot Gone) (spot_tree look c.args.places.base) (flat look (change_spot c.args.change)) (spot_tree look y)) (c.is_same.ensures.same c.if-is_same.true)
+    (cut look c.args.places.base (flat look (change_spot c.args.change)) (change_spot Gone) told (λ q. ap (λ x. flat look (change_spot x) q) (sym c.in-Gone.is)))
 
 pub merged_change-returns-then-is_none-clause-ok : goal.merged_change-returns-then-is_none-clause-ok
 merged_change-returns-then-is_none-clause-ok t c = λ told.
     let look = node_at c.args.nodes.now in
-    nowhere_before look c.args.places.base c.args.places.young (flat look (change_spot c.args.change.now)) (sym c.if-is_none.ensures)
+    nowhere_before look c.args.places.base c.args.places.young (flat look (change_spot c.args.change)) (sym c.if-is_none.ensures)
     (λ q. ap (λ x. flat look (change_spot x) q) c.in-Gone.is ∙ ap (λ s. flat look s q) gone_spot ∙ nothing_there look q)
 
 pub merged_change-returns-in_ok-merged-in-Is-clause-ok : goal.merged_change-returns-in_ok-merged-in-Is-clause-ok
@@ -40,13 +39,13 @@ merged_change-returns-in_ok-merged-in-Is-clause-ok t c = λ told.
 pub merged-returns-then-is_same-clause-ok : goal.merged-returns-then-is_same-clause-ok
 merged-returns-then-is_same-clause-ok t c = λ told.
     let look = node_at c.args.nodes.now in
-    subst (λ y. IsMergeOf look (Opened c.in_ok-copied.field-0) (spot_tree look c.args.places.base) (flat look (Opened c.args.node.now)) (spot_tree look y)) (c.is_same.ensures.same c.if-is_same.true)
-    (cut look c.args.places.base (flat look (Opened c.args.node.now)) (Opened c.in_ok-copied.field-0) told (c.in_ok-copied.ensures look))
+    subst (λ y. IsMergeOf look (Opened c.args.node) (spot_tree look c.args.places.base) (flat look (Opened c.args.node)) (spot_tree look y)) (c.is_same.ensures.same c.if-is_same.true)
+    (cut look c.args.places.base (flat look (Opened c.args.node)) (Opened c.args.node) told (λ q. refl))
 
 pub merged-loop-name-init : goal.merged-loop-name-init
 merged-loop-name-init t c =
     let look = node_at c.args.nodes.now in
-    let self = c.args.node.now in
+    let self = c.args.node in
     let gives = c.into_iter-name-iterator.ensures.into_iter_gives in
     walk_begins self c.into_iter-name-iterator.result c.new-changed.result (IsMerged look self c.args.places.base c.args.places.young)
     (subst (λ es. IsStrictlySortedBy (slice_cmp nat_cmp) (keys_of es)) (sym gives.0) gives.5)
@@ -54,41 +53,45 @@ merged-loop-name-init t c =
     (λ n. ap (λ es. lookup (is_at (slice_cmp nat_cmp n)) es) c.new-changed.ensures.empty)
     (λ n none. merged_apart look self c.args.places.base c.args.places.young n none)
 
+pub merged-loop-name-preserved-in-Some-branch-5 : goal.merged-loop-name-preserved-in-Some-branch-5
+merged-loop-name-preserved-in-Some-branch-5 t c =
+    let look = node_at c.args.nodes.now in
+    let self = c.args.node in
+    let name = c.in-Some-2.name in
+    let change = c.in-Some-2.change in
+    let turn = rest_more (λ (p : Component × Change). p) c.loop-name.name-iterator c.next.new.self c.next.result (c.in-Some-2.name, c.in-Some-2.change) c.in-Some-2.is c.next.ensures.steps in
+    let so = subst (λ es. IsWalking self es c.loop-name.changed (IsMerged look self c.args.places.base c.args.places.young)) turn c.loop-name.invariant in
+    let there = so.among name change (sym (first_here name change c.next.new.self)) in
+    walk_goes_on self name change c.next.new.self c.loop-name.changed c.put_change.new.changed (Some c.in-Some-3.kept) (IsMerged look self c.args.places.base c.args.places.young) so
+    c.in_ok-put_change.ensures.ok
+    (merged_here look self c.args.places.base c.args.places.young c.kid-was.result c.kid-now.result name change (Some c.in-Some-3.kept) there c.kid-was.ensures c.kid-now.ensures
+    (λ told. subst (λ o. IsMergeOf look (over o (shared_spot c.kid-now.result)) (spot_tree look c.kid-was.result) (flat look (change_spot change)) (spot_tree look c.kid-now.result)) c.in-Some-3.is (c.in_ok-kept.ensures.ok told)))
+
 pub merged-loop-name-preserved : goal.merged-loop-name-preserved
 merged-loop-name-preserved t c =
     let look = node_at c.args.nodes.now in
-    let self = c.args.node.now in
-    let name = c.in-Some-2.name.now in
-    let change = c.in-Some-2.change.now in
-    let turn = rest_more deref_pair c.loop-name.name-iterator c.next.new.self c.next.result (c.in-Some-2.name, c.in-Some-2.change) c.in-Some-2.is c.next.ensures.steps in
+    let self = c.args.node in
+    let name = c.in-Some-2.name in
+    let change = c.in-Some-2.change in
+    let turn = rest_more (λ (p : Component × Change). p) c.loop-name.name-iterator c.next.new.self c.next.result (c.in-Some-2.name, c.in-Some-2.change) c.in-Some-2.is c.next.ensures.steps in
     let so = subst (λ es. IsWalking self es c.loop-name.changed (IsMerged look self c.args.places.base c.args.places.young)) turn c.loop-name.invariant in
     let there = so.among name change (sym (first_here name change c.next.new.self)) in
-    elim c.match-branch-6.branch [
-      | merged-in-Some-3+in_ok-clone-3+in_ok-put_change w ↦
-          subst (λ m. IsWalking self c.next.new.self m (IsMerged look self c.args.places.base c.args.places.young)) (sym w.changed-is)
-          (walk_goes_on self name change c.next.new.self c.loop-name.changed w.put_change.new.changed (Some w.in-Some-3.kept) (IsMerged look self c.args.places.base c.args.places.young) so
-          (λ n. w.in_ok-put_change.ensures.ok n ∙ ap (λ k. if same_component k n then Some w.in-Some-3.kept else changed_at c.loop-name.changed n) w.in_ok-clone-3.ensures.cases)
-          (merged_here look self c.args.places.base c.args.places.young c.kid-was.result c.kid-now.result name change (Some w.in-Some-3.kept) there c.kid-was.ensures c.kid-now.ensures
-          (λ told. subst (λ o. IsMergeOf look (over o (shared_spot c.kid-now.result)) (spot_tree look c.kid-was.result) (flat look (change_spot change)) (spot_tree look c.kid-now.result)) w.in-Some-3.is (c.in_ok-kept.ensures.ok told))))
-      | merged-in_default-2 w ↦
-          subst (λ m. IsWalking self c.next.new.self m (IsMerged look self c.args.places.base c.args.places.young)) (sym w.changed-is)
-          (walk_passes self name change c.next.new.self c.loop-name.changed (IsMerged look self c.args.places.base c.args.places.young) so
-          (merged_here look self c.args.places.base c.args.places.young c.kid-was.result c.kid-now.result name change None there c.kid-was.ensures c.kid-now.ensures
-          (λ told. subst (λ o. IsMergeOf look (over o (shared_spot c.kid-now.result)) (spot_tree look c.kid-was.result) (flat look (change_spot change)) (spot_tree look c.kid-now.result)) w.in_default-2.is (c.in_ok-kept.ensures.ok told))))
-    ]
+    walk_passes self name change c.next.new.self c.loop-name.changed (IsMerged look self c.args.places.base c.args.places.young) so
+    (merged_here look self c.args.places.base c.args.places.young c.kid-was.result c.kid-now.result name change None there c.kid-was.ensures c.kid-now.ensures
+    (λ told. subst (λ o. IsMergeOf look (over o (shared_spot c.kid-now.result)) (spot_tree look c.kid-was.result) (flat look (change_spot change)) (spot_tree look c.kid-now.result)) c.in_default-2.is (c.in_ok-kept.ensures.ok told)))
 
 pub merged-returns-clause-ok : goal.merged-returns-clause-ok
 merged-returns-clause-ok t c = λ told.
     let look = node_at c.args.nodes.now in
-    let self = c.args.node.now in
+    let self = c.args.node in
     let theirs = c.in-Some.theirs.now in
     let kept = c.in-Some.ensures.kept in
     let content = c.in_ok-try_clone.ensures in
     let properties = c.in_ok-try_clone-2.ensures in
-    let own = c.in_ok-clone-4.ensures.cases in
-    let rest = rest_all deref_pair c.loop-name.name-iterator c.next.new.self c.next.result c.in-None.is c.next.ensures.steps in
+    let own = c.in_ok-clone-3.ensures.cases in
+    let rest = rest_all (λ (p : Component × Change). p) c.loop-name.name-iterator c.next.new.self c.next.result c.in-None.is c.next.ensures.steps in
     merge_ends look self
-    (roll-OpenNode (record { own = Made theirs.own.rev c.in_ok-clone-4.field-0; content = c.in_ok-try_clone.field-0; properties = c.in_ok-try_clone-2.field-0; base = c.args.places.young; changed = c.loop-name.changed }))
+    (roll-OpenNode (record { own = Made theirs.own.rev c.in_ok-clone-3.field-0; content = c.in_ok-try_clone.field-0; properties = c.in_ok-try_clone-2.field-0; base = c.args.places.young; changed = c.loop-name.changed }))
     c.args.places.base c.args.places.young kept.was theirs c.loop-name.name-iterator c.loop-name.changed
     kept.old kept.now kept.one kept.same
     (λ id i. record { content = content i; properties = properties i; own = Made theirs.own.rev (own i); last = Open }) refl refl rest c.loop-name.invariant told
@@ -96,11 +99,11 @@ merged-returns-clause-ok t c = λ told.
 pub merged-returns-in_err-kept-clause-conflict : goal.merged-returns-in_err-kept-clause-conflict
 merged-returns-in_err-kept-clause-conflict t c = λ may.
     let look = node_at c.args.nodes.now in
-    let self = c.args.node.now in
+    let self = c.args.node in
     let places = c.args.places in
-    let name = c.in-Some-2.name.now in
-    let change = c.in-Some-2.change.now in
-    let turn = rest_more deref_pair c.loop-name.name-iterator c.next.new.self c.next.result (c.in-Some-2.name, c.in-Some-2.change) c.in-Some-2.is c.next.ensures.steps in
+    let name = c.in-Some-2.name in
+    let change = c.in-Some-2.change in
+    let turn = rest_more (λ (p : Component × Change). p) c.loop-name.name-iterator c.next.new.self c.next.result (c.in-Some-2.name, c.in-Some-2.change) c.in-Some-2.is c.next.ensures.steps in
     let so = subst (λ es. IsWalking self es c.loop-name.changed (IsMerged look self places.base places.young)) turn c.loop-name.invariant in
     let there = so.among name change (sym (first_here name change c.next.new.self)) in
     let kids : Places = record { base = c.kid-was.result; young = c.kid-now.result } in
@@ -117,7 +120,7 @@ pub merged_change-returns-in_ok-clone-in-Gone-clause-conflict : goal.merged_chan
 merged_change-returns-in_ok-clone-in-Gone-clause-conflict t c = λ may.
     let look = node_at c.args.nodes.now in
     let a = spot_tree look c.args.places.base in
-    let s = flat look (change_spot c.args.change.now) in
+    let s = flat look (change_spot c.args.change) in
     let y = spot_tree look c.args.places.young in
     subst (IsConflictUnder c.args.path.now a s y) (sym c.in_ok-clone-in-Gone.ensures.cases)
     (conflict_here c.args.path.now a s y

@@ -1,6 +1,6 @@
 use Rattle.std.proofs.Common.{ap, ◌∙◌}
 use Rattle.std.specs.FinMap.{empty}
-use Rattle.flatrepo.specs.Whole.{state_of, with_locks}
+use Rattle.flat_commits.specs.Whole.{state_of, with_locks}
 use Rattle.flatrepo.proofs.flat_repo.FlatRepo.new.Goals as goal
 
 pub returns : goal.returns

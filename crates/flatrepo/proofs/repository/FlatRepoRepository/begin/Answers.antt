@@ -1,6 +1,6 @@
 use Rattle.std.proofs.Common.{◌-◌, length, ap, ◌∙◌}
 use Rattle.repo_api.specs.States.{tree_at}
-use Rattle.flatrepo.specs.Contents.{flat_state, revisions_of}
+use Rattle.flat_commits.specs.Contents.{flat_state, revisions_of}
 use Rattle.flatrepo.proofs.Beginning.{begun_is}
 use Rattle.flatrepo.proofs.repository.FlatRepoRepository.begin.Goals as goal
 

@@ -10,7 +10,7 @@ pub returns-in-Ok : goal.returns-in-Ok
 returns-in-Ok c = λ m is.
     let self = c.args.self.now in
     let a = trees_of self.nodes c.args.base in
-    let s = txn_tree self.nodes c.args.tree.now in
+    let s = txn_tree self.nodes c.args.tree in
     let t = trees_of self.nodes c.youngest.result in
     let ma = tree_at (held_state self) c.args.base in
     let mt = tree_at (held_state self) (youngest (held_state self)) in
@@ -28,7 +28,7 @@ pub returns-in-Err : goal.returns-in-Err
 returns-in-Err c = λ m is.
     let self = c.args.self.now in
     let a = trees_of self.nodes c.args.base in
-    let s = txn_tree self.nodes c.args.tree.now in
+    let s = txn_tree self.nodes c.args.tree in
     let t = trees_of self.nodes c.youngest.result in
     let ma = tree_at (held_state self) c.args.base in
     let mt = tree_at (held_state self) (youngest (held_state self)) in

@@ -1,15 +1,25 @@
-use Rattle.std.proofs.Common.{refl, subst}
-use Rattle.session_pool.specs.Serving.{ServesInTurn, settings_of, Stand, stand, stands}
-use Rattle.session_pool.proofs.InTurn.{served_with}
+use Rattle.session_pool.specs.Serving.{settings_of, stand}
+use Rattle.session_pool.proofs.InTurn.{serves_one_more}
 use Rattle.session_pool.proofs.pool.SessionPool.serve_at.Goals as goal
 
-pub returns : goal.returns
-returns g c =
-    let rules = g.A.RepoAccess.rules in
-    let gives = g.E.EnvSource.gives in
+pub loop-preserved-in-Ok : goal.loop-preserved-in-Ok
+loop-preserved-in-Ok g c =
     let point = g.A.RepoAccess.point in
-    let old = stand (settings_of c.args.self.now) (point c.args.desk.0) c.args.desk.1 in
-    let new = stands point c.work.new.attendant in
-    served_with rules gives old new (settings_of c.args.self.now) (point c.into_desk.result.0) c.into_desk.result.1
-    (subst (λ (s : Stand g.row.E.Denot). ServesInTurn rules gives s new) c.attendant-attendant.ensures c.work.ensures)
-    refl c.into_desk.ensures.point c.into_desk.ensures.envs
+    let old = stand (settings_of c.args.self.now) (point c.args.desk.0) c.args.desk.1 in (
+      tt,
+      tt,
+      c.serve_one-served.ensures.sound,
+      serves_one_more g.A.RepoAccess.rules g.E.EnvSource.gives old _ _ _ _ _ c.loop.invariant.3 c.options_by-options.ensures
+          c.serve_one-served.ensures.served,
+    )
+
+pub loop-preserved : goal.loop-preserved
+loop-preserved g c =
+    let point = g.A.RepoAccess.point in
+    let old = stand (settings_of c.args.self.now) (point c.args.desk.0) c.args.desk.1 in (
+      tt,
+      tt,
+      c.serve_one-served.ensures.sound,
+      serves_one_more g.A.RepoAccess.rules g.E.EnvSource.gives old _ _ _ _ _ c.loop.invariant.3 c.options_by-options.ensures
+          c.serve_one-served.ensures.served,
+    )
