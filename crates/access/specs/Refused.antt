@@ -1,8 +1,7 @@
 -- A commit that was not made, with the path at which it is refused.
 use Rattle.std.specs.Prelude.{◌≡◌, ◌⊎◌, Option, Result, Ok, Err}
 use Rattle.svnpath.specs.Paths.{PathValue}
-use Rattle.repo_api.specs.declared.fault.ChangeFault.{ChangeFault}
-use Rattle.repo_api.specs.declared.fault.ChangeFault.TheVariants.{Refused, StoreFailed, Halted, NoMemory}
+use Rattle.repo_api.specs.{declared.fault.ChangeFault.ChangeFault, declared.fault.ChangeFault.TheVariants.{Refused, StoreFailed, Halted, NoMemory}}
 use Rattle.access.specs.declared.not_committed.NotCommitted.{NotCommitted}
 
 -- what came of a commit, as of any change

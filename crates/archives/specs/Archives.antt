@@ -1,10 +1,8 @@
 -- What keeps the files of a repository, and what a save leaves.
 use Rattle.std.specs.Prelude.{◌≡◌, ◌⊎◌, Bool, true, false, List, [], ◌∷◌, Option, Some, Result, Ok, Err, IfOk}
-use Rattle.repo_api.specs.{Accepted.{Accepted, changed, IsAccepted, IsJudged, refusal_of}, States.RepoState}
-use Rattle.repo_api.specs.declared.fault.ChangeFault.{ChangeFault}
-use Rattle.access.specs.Points.{HasRisen}
+use Rattle.repo_api.specs.{Accepted.{Accepted, changed, IsAccepted, IsJudged, refusal_of}, States.RepoState, declared.fault.ChangeFault.ChangeFault}
+use Rattle.access.specs.{Points.HasRisen, Beginnings.through}
 use Rattle.published.specs.{Changes.IsRight, Events.{Event, state_of, told_in}, Files.Kept}
-use Rattle.stops.specs.Beginnings.{through}
 use Rattle.archives.specs.{declared.archive.SaveFault.SaveFault, declared.archive.SaveFault.TheVariants.{Device, NoMemory, Halted}}
 
 -- the rules accept the change, and this is what it makes

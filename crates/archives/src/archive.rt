@@ -1,9 +1,8 @@
 //! What makes the changes of a repository, and keeps its files.
 ghost use Rattle.std.specs.Prelude.{◌≡◌, true, false, List, [], ◌∷◌, ◌++◌};
 ghost use Rattle.repo_api.specs.{Transactions.MayCommit, Accepted.Accepted, Accepted.Accepted.{ChangesProperty, Commits, Locks, Releases, Unlocks}};
-ghost use Rattle.repo_api.specs.Locking.{releases};
-ghost use Rattle.repo_api.specs.States.{RepoState};
-ghost use Rattle.stops.specs.Beginnings.{AreAmong, through};
+ghost use Rattle.repo_api.specs.{Locking.releases, States.RepoState};
+ghost use Rattle.access.specs.Beginnings.{AreAmong, through};
 ghost use Rattle.archives.specs.Archives.{MaySave, Prepares, SaveLeaves};
 
 use access::Handed;

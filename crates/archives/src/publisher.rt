@@ -1,8 +1,7 @@
 //! The history of a repository, and what shows the repository to readers. All that is needed after a save is taken before.
 ghost use Rattle.std.specs.Prelude.{◌≡◌, ◌<◌, ◌^◌, [], ◌∷◌, ◌++◌, false, length, IfOk};
 ghost use Rattle.access.specs.Points.{HasRisen};
-ghost use Rattle.published.specs.{Changes.IsRight, Edition.edition_after, Files.Agrees};
-ghost use Rattle.published.specs.Events.{IsHistory, accepted_by, knowing, state_of, told_in};
+ghost use Rattle.published.specs.{Changes.IsRight, Edition.edition_after, Files.Agrees, Events.{IsHistory, accepted_by, knowing, state_of, told_in}};
 ghost use Rattle.published.specs.Events.Event.{Fails, Makes};
 ghost use Rattle.archives.specs.Publishing.{AreAtHand, BothContain};
 

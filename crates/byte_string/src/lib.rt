@@ -6,10 +6,13 @@
 //! begins another is less. Up to 30 bytes take no memory of their own.
 #![tactic(auto)]
 
+mod sequence;
+
 ghost use Rattle.std.specs.{Prelude.{◌≡◌, ◌==◌, ◌≤◌, ℕ, List, refl, Some, IfOk, length}, Cmp.partial_equiv_from_equiv};
 ghost use Rattle.std.specs.{Cmp.Lexicographic.{slice_cmp, pointwise, texts_ties, texts_po}, Ordering.nat_cmp};
 ghost use Rattle.byte_string.specs.Bytes.{list_of, IsWithin};
 
+pub use sequence::Sequence;
 use std::alloc::{AllocError, Global};
 use std::cmp::Ordering;
 use std::marker::Model;

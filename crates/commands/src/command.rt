@@ -5,8 +5,7 @@ ghost use Rattle.wire_forms.specs.Answering.{Answers, Reads};
 ghost use Rattle.commands.specs.Commands.{main_command, main_command_name, main_command_with, check_path, rev_proplist, locks_first, properties_at_end, commit};
 ghost use Rattle.commands.specs.Commands.{lock, unlock, get_lock, get_locks, path_first, get_file, get_dir, has_fields, stat, get_dated_rev, rev_prop};
 ghost use Rattle.commands.specs.Commands.{change_rev_prop, change_rev_prop2, previous_value, reparent, limit_at_end, log_command, get_locations};
-ghost use Rattle.commands.specs.Commands.{get_deleted_rev, get_file_revs, get_location_segments, merged_at_end, name_of_today};
-ghost use Rattle.commands.specs.Commands.{replay, replay_range};
+ghost use Rattle.commands.specs.Commands.{get_deleted_rev, get_file_revs, get_location_segments, merged_at_end, name_of_today, replay, replay_range};
 
 use crate::login::are_words;
 use byte_string::ByteString;

@@ -2,8 +2,7 @@
 use Rattle.std.specs.Prelude.{ℕ, ◌+◌, ◌*◌, nat_lt, Bool, ◌||◌, List, length, Option, Some, None}
 use Rattle.machine.specs.Stages.{SessionState, user_in}
 use Rattle.session.specs.Awaiting.{awaited}
-use Rattle.guests.specs.declared.awaited.Awaited.{Awaited}
-use Rattle.guests.specs.declared.awaited.Awaited.TheVariants.{Login, Command, Report, Edit, Nothing}
+use Rattle.guests.specs.{declared.awaited.Awaited.Awaited, declared.awaited.Awaited.TheVariants.{Login, Command, Report, Edit, Nothing}}
 use Rattle.conversations.specs.declared.limits.TheConstants.{FRAME, STRING, FEW, MANY, MOST}
 
 -- so many bytes, by what is awaited

@@ -1,8 +1,7 @@
 // One line of the users file.
 ghost use Rattle.std.specs.{Prelude.{◌≡◌, ℕ, ◌<◌, ◌==◌, ◌∷◌, length, MatchOption}, Str.Lines.{lines, strip_carriage_return}};
-ghost use Rattle.cram.specs.Line.{is_blank, is_outside_names, is_user_name, has_right_length};
-ghost use Rattle.cram.specs.Line.{line_of, pair_of, pair_or_wrong, without_first_blanks, without_last_blanks};
-ghost use Rattle.cram.specs.{Parts.{IsSplitAtFirst, IsWithout}, ParsedLine.said_by};
+ghost use Rattle.cram.specs.Line.{is_blank, is_outside_names, is_user_name, has_right_length, line_of, pair_of, pair_or_wrong, without_first_blanks};
+ghost use Rattle.cram.specs.{Line.without_last_blanks, Parts.{IsSplitAtFirst, IsWithout}, ParsedLine.said_by};
 
 // The most bytes of a name or of a password.
 const MAX_LEN: usize = 255;

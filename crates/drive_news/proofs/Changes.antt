@@ -7,8 +7,8 @@ use Rattle.svnpath.specs.{PathLaws.{same_component_is, same_component_refl}, Pat
 use Rattle.repo_api.specs.Properties.{is_same_value, property_value, PropertyList, with_property}
 use Rattle.drive_rules.specs.Steps.{is_entry_property, property_values}
 use Rattle.drive_rules.proofs.Joined.{or_false}
-use Rattle.reporter.specs.Own.{Change, changes_name, LeadTo}
-use Rattle.reporter.proofs.Owning.{Agrees}
+use Rattle.drive_visits.specs.Own.{Change, changes_name, LeadTo}
+use Rattle.drive_visits.proofs.Owning.{Agrees}
 use Rattle.drive_news.specs.{News.{names_in_both, is_told, property_changes}, Parts.changes_named}
 
 -- ---- tests

@@ -9,10 +9,10 @@ use Rattle.repo_api.specs.{declared.entry.Content.TheVariants.{Directory, File},
 use Rattle.drive_rules.specs.Steps.{after_steps, all_meet, empty_content, has_step, is_entry_property, is_of_kind, is_text, IsOwn, no_properties, Node, node_of}
 use Rattle.drive_rules.specs.{Steps.{property_values, PropertyValues, Step}, Steps.EntryKind.FileKind, Steps.Step.PropertyAt}
 use Rattle.drive_rules.proofs.Joined.{any_append, and_front, or_right}
-use Rattle.drive_reports.specs.{declared.ask.Purpose.Purpose, declared.ask.Purpose.TheVariants.{Update, Switch, Status, Diff, Summary}}
-use Rattle.reporter.specs.{Own.{Change, property_steps, text_steps, own_steps, content_with_text, LeadTo}, Visits.kind_if, Walks.{LeadsOver, blank}}
-use Rattle.reporter.proofs.Owning.{own_becomes, own_is, own_meets}
-use Rattle.drive_wire.specs.{EntryProperties.entry_property, Sent.seen_by}
+use Rattle.reporter.specs.{declared.ask.Purpose.Purpose, declared.ask.Purpose.TheVariants.{Update, Switch, Status, Diff, Summary}}
+use Rattle.reporter.specs.{EntryProperties.entry_property, Sent.seen_by}
+use Rattle.drive_visits.specs.{Own.{Change, property_steps, text_steps, own_steps, content_with_text, LeadTo}, Visits.kind_if, Walks.{LeadsOver, blank}}
+use Rattle.drive_visits.proofs.Owning.{own_becomes, own_is, own_meets}
 use Rattle.drive_news.specs.News.{entry_changes, entry_property_names, property_changes, text_sent, other_text, news_of, steps_if, old_entry}
 use Rattle.drive_news.specs.declared.news.News.{News}
 use Rattle.drive_news.proofs.Changes.{changes_lead_to}

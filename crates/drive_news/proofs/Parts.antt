@@ -1,7 +1,7 @@
 -- Changes one after another.
 use Rattle.std.proofs.Common.{◌≡◌, ℕ, List, [], ◌∷◌, ◌++◌, Option, ap, ◌∙◌}
 use Rattle.std.specs.Prelude.{Result, Ok, Err, IfOk, IsOkAnd}
-use Rattle.reporter.specs.Own.{Change}
+use Rattle.drive_visits.specs.Own.{Change}
 
 -- one change more, by a value that was made
 pub one_more : {E : Type 0} (name : List ℕ) (made : Result (Option (List ℕ)) E) (before more seen : List Change) (value : Option (List ℕ))

@@ -7,9 +7,8 @@ use Rattle.wire_forms.specs.Forms.{is_name}
 use Rattle.repo_api.specs.{Kinds.{node_properties, or_empty}, Properties.PropertyList, States.RepoState, declared.entry.Entry.Entry}
 use Rattle.drive_rules.specs.{Steps.{is_entry_property, is_named, Step, step_path}, Steps.Step.{AddAt, DeleteAt, OpenAt, PropertyAt, TextAt}}
 use Rattle.drive_rules.proofs.Joined.{or_false}
-use Rattle.drive_reports.specs.declared.ask.Purpose.{Purpose}
-use Rattle.reporter.specs.Own.{Change, property_steps, text_steps}
-use Rattle.drive_wire.specs.EntryProperties.{entry_property, told, told_by}
+use Rattle.reporter.specs.{declared.ask.Purpose.Purpose, EntryProperties.{entry_property, told, told_by}}
+use Rattle.drive_visits.specs.Own.{Change, property_steps, text_steps}
 use Rattle.drive_news.specs.News.{entry_changes, entry_property_names, property_changes, news_of, news_steps}
 use Rattle.drive_news.proofs.{Changes.{any_named, turned, changes_lead_to}, Leading.as_own}
 

@@ -7,10 +7,9 @@ use Rattle.repo_api.specs.{Kinds.{node_properties, or_empty}, Properties.{is_sam
 use Rattle.repo_api.specs.{Trees.{content_text, text_of, Tree}, declared.entry.Entry.Entry}
 use Rattle.wire_forms.specs.Forms.{is_name}
 use Rattle.drive_rules.specs.Steps.{is_entry_property, Step}
-use Rattle.reporter.specs.{Own.{Change, property_steps, text_steps}, Visits.OwnSteps}
-use Rattle.drive_reports.specs.{Targets.{WholeReport, old_tree, new_tree, stale_in}, declared.ask.Purpose.Purpose}
-use Rattle.drive_reports.specs.declared.ask.Purpose.TheVariants.{Update, Switch, Status, Diff, Summary}
-use Rattle.drive_wire.specs.EntryProperties.{entry_property}
+use Rattle.drive_visits.specs.{Own.{Change, property_steps, text_steps}, Visits.OwnSteps}
+use Rattle.reporter.specs.{Targets.{WholeReport, old_tree, new_tree, stale_in}, declared.ask.Purpose.Purpose}
+use Rattle.reporter.specs.{declared.ask.Purpose.TheVariants.{Update, Switch, Status, Diff, Summary}, EntryProperties.entry_property}
 use Rattle.drive_news.specs.declared.news.News.{News}
 
 -- ---- properties

@@ -2,7 +2,7 @@
 use Rattle.std.specs.Prelude.{ℕ, Bool, true, false, List, [], ◌∷◌, Option, Some, None, option_map, option_and_then, map, filter, codes, decimal}
 use Rattle.repo_api.specs.{Kinds.properties_at, Properties.{property_value, PropertyList}, States.RepoState}
 use Rattle.wire_replies.specs.Replies.{uuid_text}
-use Rattle.reporter.specs.Own.{Change}
+use Rattle.drive_visits.specs.Own.{Change}
 use Rattle.drive_news.specs.News.{is_told}
 
 -- what becomes of the properties of these names

@@ -2,7 +2,7 @@
 use Rattle.std.specs.Prelude.{◌≡◌, Bool, true, false, IsTrue, Option, option_map, option_and_then}
 use Rattle.repo_api.specs.{States.{RepoState, trees_in}, Trees.revision_of, declared.entry.Content.Content, declared.entry.Entry.Entry}
 use Rattle.drive_rules.specs.Steps.{node_of}
-use Rattle.drive_reports.specs.Reported.{top_entry}
+use Rattle.reporter.specs.Reported.{top_entry}
 use Rattle.drive_news.specs.{News.news_of, declared.news.Had.Had, declared.news.News.News, declared.news.Place.Place, declared.news.Sight.Sight}
 
 -- what stands at a place

@@ -1,15 +1,15 @@
 //! Whether two entries differ.
 ghost use Rattle.std.specs.Prelude.{◌≡◌, true, false, Decides, IfOk, option_map};
 ghost use Rattle.drive_rules.specs.Steps.{node_of};
-ghost use Rattle.drive_wire.specs.Sent.{counts_changes};
+ghost use Rattle.reporter.specs.Sent.{counts_changes};
 ghost use Rattle.drive_news.specs.Places.{Compares, entry_at, entry_content, entry_had};
 
 use crate::had::{had_created, had_kind, had_properties, had_text};
 use crate::news::{Had, Place};
 use crate::property_changes::are_same_properties;
 use crate::texts::are_same_texts;
-use drive_reports::Purpose;
 use repo_api::{Properties, Repository};
+use reporter::Purpose;
 use std::alloc::{AllocError, Global};
 
 /// Says whether the last change of an entry counts in a drive.

@@ -5,9 +5,8 @@ ghost use Rattle.wire_replies.specs.Replies.{uuid_text};
 ghost use Rattle.drive_news.specs.Parts.{last_changes, revision_property, stale_changes};
 
 use crate::news::PropertyChanges;
-use byte_string::ByteString;
+use byte_string::{ByteString, Sequence};
 use repo_api::{PropertyValue, Repository};
-use sequence::Sequence;
 use std::alloc::{AllocError, Global};
 use wire_forms::copy_optional;
 use wire_replies::{decimal_text, uuid_text};

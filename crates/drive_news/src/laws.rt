@@ -3,9 +3,8 @@ ghost use Rattle.std.specs.Prelude.{◌≡◌, ℕ, true, Bool, List, Option};
 ghost use Rattle.svnpath.specs.Paths.{PathValue};
 ghost use Rattle.repo_api.specs.{declared.entry.Entry.Entry, States.RepoState};
 ghost use Rattle.drive_rules.specs.Steps.{is_entry_property};
-ghost use Rattle.drive_reports.specs.{declared.ask.Purpose.Purpose, Targets.{WholeReport, old_tree, new_tree}};
-ghost use Rattle.drive_wire.specs.{EntryProperties.{entry_property, told}, Sent.seen_by};
-ghost use Rattle.reporter.specs.Walks.{LeadsOver};
+ghost use Rattle.reporter.specs.{declared.ask.Purpose.Purpose, Targets.{WholeReport, old_tree, new_tree}, EntryProperties.{entry_property, told}, Sent.seen_by};
+ghost use Rattle.drive_visits.specs.Walks.{LeadsOver};
 ghost use Rattle.drive_news.specs.News.{news_of, news_steps, own_steps_of};
 
 /// Shows that what entries are told leads from what the client has of each to what it is to have.

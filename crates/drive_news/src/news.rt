@@ -1,8 +1,7 @@
 //! What an entry is told of itself.
-use byte_string::ByteString;
-use drive_reports::Purpose;
+use byte_string::{ByteString, Sequence};
 use repo_api::{FileText, PropertyValue};
-use sequence::Sequence;
+use reporter::Purpose;
 use svnpath::Path;
 
 /// Where an entry stands: a revision, and a path in it.

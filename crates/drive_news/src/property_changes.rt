@@ -4,9 +4,8 @@ ghost use Rattle.drive_rules.specs.Steps.{is_entry_property, property_values};
 ghost use Rattle.drive_news.specs.{News.{is_told, names_in_both, property_changes}, Parts.changes_named};
 
 use crate::news::PropertyChanges;
-use byte_string::ByteString;
+use byte_string::{ByteString, Sequence};
 use repo_api::{Properties, is_same_value};
-use sequence::Sequence;
 use std::alloc::{AllocError, Global};
 
 /// Says whether the name is that of an entry property.

@@ -3,8 +3,8 @@ ghost use Rattle.std.specs.Prelude.{◌≡◌, IfOk, option_copied};
 ghost use Rattle.drive_news.specs.News.{other_text, text_sent};
 ghost use Rattle.repo_api.specs.Properties.{is_same_value};
 
-use drive_reports::Purpose;
 use repo_api::FileText;
+use reporter::Purpose;
 use small_rules::is_same_text;
 use std::alloc::AllocError;
 

@@ -6,7 +6,8 @@ use Rattle.svnpath.specs.{PathLaws.{same_path_is, same_path_refl, under_append, 
 use Rattle.repo_api.specs.{Trees.{HasFile, is_directory, Tree}, declared.entry.Entry.Entry}
 use Rattle.drive_rules.specs.Steps.{EntryKind, Step, Node, node_of, node_at, after_step, after_steps, meets, all_meet, is_of_kind, is_named, has_step}
 use Rattle.drive_rules.specs.Steps.{is_opening, is_adding, adds_or_deletes, is_text, empty_content, no_properties, may_change, IsOwn}
-use Rattle.drive_rules.specs.{Steps.Step.{OpenAt, AddAt, DeleteAt}, Drives.{Counts, IsRight, HasReason, Differs, IsOfOneKind, HasOtherText, IsInBoth, created_revision}}
+use Rattle.drive_rules.specs.Steps.Step.{OpenAt, AddAt, DeleteAt}
+use Rattle.drive_rules.specs.Drives.{Counts, IsRight, HasReason, Differs, IsOfOneKind, HasOtherText, IsInBoth, created_revision}
 use Rattle.drive_rules.specs.Scopes.{under, below, tree_without}
 use Rattle.drive_rules.proofs.Joined.{or_cases, or_left, or_right, and_front, and_both, apart_same, reach_named, either, Spares, IsDisjoint, joined, same_under}
 use Rattle.drive_rules.proofs.{Joined.{any_named, mapped_some, none_some}, Coming.coming_is_added}

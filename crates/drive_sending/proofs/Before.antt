@@ -2,8 +2,7 @@
 use Rattle.std.proofs.{Common.{◌≡◌, ℕ, Bool, true, false, cond, List, Option, Some, None, option_map, refl, sym, ap, ◌∙◌}, lemmas.Option.none-some}
 use Rattle.svnpath.specs.Paths.{PathValue}
 use Rattle.repo_api.specs.{States.RepoState, Trees.text_of}
-use Rattle.drive_reports.specs.Targets.{WholeReport, drive_scope, new_tree, old_tree, target_entries}
-use Rattle.drive_wire.specs.Sent.{or_no_text}
+use Rattle.reporter.specs.{Targets.{WholeReport, drive_scope, new_tree, old_tree, target_entries}, Sent.or_no_text}
 use Rattle.drive_news.specs.{News.news_at, declared.news.News.News}
 use Rattle.wire_deltas.specs.Texts.{text_or_empty}
 use Rattle.drive_sending.specs.Commands.{IsSentOver, news_told, or_no_news, text_had}

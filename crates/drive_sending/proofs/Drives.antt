@@ -9,13 +9,12 @@ use Rattle.repo_api.specs.{States.RepoState, Trees.Tree, declared.entry.Entry.En
 use Rattle.wire_edits.specs.declared.editing.EditorCommand.TheVariants.{CloseDirectory}
 use Rattle.drive_rules.specs.{Steps.{has_step, is_adding, is_entry_property, is_opening, Step}, Steps.EntryKind.DirectoryKind, Steps.Step.{AddAt, OpenAt}}
 use Rattle.drive_rules.proofs.{Joined.{and_front, named_append}, Trees.{in_scope, is_scope}}
-use Rattle.reporter.specs.{Own.{Change, property_steps, text_steps}, Visits.{entry_kind, kind_if, plan_steps, visit_steps, Visit}}
-use Rattle.reporter.specs.Visits.Visit.{Open, Add, Delete, Close}
-use Rattle.drive_reports.specs.{Reported.reported_entries, Targets.{WholeReport, client_tree, counted_entries, depth_inherited, drive_limit, target_entries}}
-use Rattle.drive_reports.specs.Targets.{drive_scope, due_in, is_apart, is_hidden, old_tree, new_tree, stale_in}
-use Rattle.drive_wire.specs.{EntryProperties.{entry_property, told_by, told}, Saying.Says}
-use Rattle.drive_wire.specs.Sent.{IsDrive, LeadsToTarget, TellsEach, base_of, or_no_text, enters, from_root, counts_of}
-use Rattle.drive_wire.proofs.{Joining.says_append, Writing.reads_close}
+use Rattle.drive_visits.specs.{Own.{Change, property_steps, text_steps}, Visits.{entry_kind, kind_if, plan_steps, visit_steps, Visit}}
+use Rattle.drive_visits.specs.Visits.Visit.{Open, Add, Delete, Close}
+use Rattle.reporter.specs.{Reported.reported_entries, Targets.{WholeReport, client_tree, counted_entries, depth_inherited, drive_limit, target_entries}}
+use Rattle.reporter.specs.{Targets.{drive_scope, due_in, is_apart, is_hidden, old_tree, new_tree, stale_in}, EntryProperties.{entry_property, told_by, told}}
+use Rattle.reporter.specs.{Saying.Says, Sent.{IsDrive, LeadsToTarget, TellsEach, base_of, or_no_text, enters, from_root, counts_of}}
+use Rattle.reporter.proofs.{Joining.says_append, Writing.reads_close}
 use Rattle.drive_news.specs.{News.{news_at, news_steps, steps_if, own_steps_of, old_entry}, declared.news.News.News}
 use Rattle.drive_sides.specs.Plans.{IsPlan, from_top}
 use Rattle.drive_sending.specs.{Commands.{news_commands, news_told, root_commands, plan_commands, body_commands, drive_of}, Tokens.token_of}

@@ -6,15 +6,14 @@ use Rattle.svnpath.specs.{PathLaws.same_component_refl, Paths.PathValue}
 use Rattle.svndiff0.specs.{Document.{header, document_text}, Window.limit}
 use Rattle.text_deltas.specs.Deltas.{delta_chunks}
 use Rattle.wire_deltas.specs.Texts.{text_commands}
-use Rattle.drive_wire.specs.{Sent.or_no_text, Saying.{OpenEntry, Says, same_kind, sends_texts, is_base_checksum, is_sent_checksum, is_sent_delta, file_closed}}
-use Rattle.drive_wire.specs.Saying.TextState.{Received}
+use Rattle.reporter.specs.{Sent.or_no_text, Saying.{OpenEntry, Says, same_kind, sends_texts, is_base_checksum, is_sent_checksum, is_sent_delta, file_closed}}
+use Rattle.reporter.specs.{Saying.TextState.Received, declared.ask.Purpose.Purpose, declared.ask.Purpose.TheVariants.{Update, Switch, Status, Diff, Summary}}
 use Rattle.wire_forms.specs.Forms.{is_name}
 use Rattle.wire_edits.specs.declared.editing.EditorCommand.TheVariants.{CloseFile}
 use Rattle.drive_rules.specs.{Steps.EntryKind, Steps.EntryKind.{DirectoryKind, FileKind}, Steps.Step.TextAt}
 use Rattle.drive_rules.proofs.Joined.{and_both}
-use Rattle.reporter.specs.Own.{property_steps, text_steps}
-use Rattle.drive_reports.specs.{declared.ask.Purpose.Purpose, declared.ask.Purpose.TheVariants.{Update, Switch, Status, Diff, Summary}}
-use Rattle.drive_wire.proofs.{Joining.says_append, Writing.{says_properties, says_text, joined_bytes, with_state}}
+use Rattle.drive_visits.specs.Own.{property_steps, text_steps}
+use Rattle.reporter.proofs.{Joining.says_append, Writing.{says_properties, says_text, joined_bytes, with_state}}
 use Rattle.drive_news.specs.{News.news_steps, declared.news.News.News}
 use Rattle.drive_sending.specs.{Commands.{digits_of, checksum_sent, IsSentOver, news_commands, property_command, sent_commands}, Tokens.token_of}
 use Rattle.drive_sending.proofs.Tokens.{entry_at, open_directories}

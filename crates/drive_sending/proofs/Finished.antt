@@ -8,16 +8,15 @@ use Rattle.refusals.specs.declared.Refusal.{Refusal}
 use Rattle.refusals.specs.declared.Refusal.TheVariants as refusals
 use Rattle.drive_rules.specs.{Scopes.{stays_in_scope, top_limit}, Steps.EntryKind.DirectoryKind}
 use Rattle.drive_rules.proofs.Joined.{and_front}
-use Rattle.reporter.specs.Visits.{entry_kind, kind_if, Visit}
-use Rattle.drive_reports.specs.{Named.{IsNamed, AreNamed}, Refusing.{◌>>=◌, ok_if, OpenState, has_goal, has_anchor, finish_root}, Aims.aim_at}
-use Rattle.drive_reports.specs.Reported.{has_directory}
-use Rattle.drive_reports.specs.Targets.{WholeReport, counted_entries, depth_inherited, drive_limit, is_hidden, reported_tree, target_entries, new_tree}
-use Rattle.drive_reports.specs.declared.report.ReportRoot.{ReportRoot}
-use Rattle.drive_reports.proofs.Aiming.{root_entry}
+use Rattle.drive_visits.specs.Visits.{entry_kind, kind_if, Visit}
+use Rattle.reporter.specs.{Named.{IsNamed, AreNamed}, Refusing.{◌>>=◌, ok_if, OpenState, has_goal, has_anchor, finish_root}, Aims.aim_at}
+use Rattle.reporter.specs.Reported.{has_directory}
+use Rattle.reporter.specs.Targets.{WholeReport, counted_entries, depth_inherited, drive_limit, is_hidden, reported_tree, target_entries, new_tree}
+use Rattle.reporter.specs.{declared.report.ReportRoot.ReportRoot, Sent.IsDrive}
+use Rattle.reporter.proofs.Aiming.{root_entry}
 use Rattle.drive_sides.specs.Plans.{whole, IsPlan}
 use Rattle.wire_edits.specs.declared.editing.EditorCommand.{EditorCommand}
 use Rattle.wire_replies.specs.Sinks.{Says}
-use Rattle.drive_wire.specs.Sent.{IsDrive}
 use Rattle.drive_sending.specs.{Commands.drive_of, Driving.{drive_replies, SaysDrive}}
 use Rattle.drive_sending.proofs.{Entries.GiveTexts, Sending.plan_sendable, Drives.{RootStands, is_drive}}
 

@@ -11,12 +11,12 @@ use Rattle.wire_forms.specs.Forms.{is_name}
 use Rattle.wire_edits.specs.declared.editing.EditorCommand.{EditorCommand}
 use Rattle.drive_rules.specs.{Places.is_in_directory, Steps.{EntryKind, Step}, Steps.EntryKind.{DirectoryKind, FileKind}, Steps.Step.{AddAt, DeleteAt, OpenAt}}
 use Rattle.drive_rules.proofs.Joined.{and_front}
-use Rattle.reporter.specs.{Nesting.{stands_as, walk}, Visits.{entry_kind, kind_if, plan_steps, Visit}, Visits.Visit.{Open, Add, Delete, Close}}
-use Rattle.drive_reports.specs.{Targets.{WholeReport, old_tree, new_tree}, declared.ask.Purpose.Purpose}
-use Rattle.drive_reports.specs.declared.ask.Purpose.TheVariants.{Update, Switch, Status, Diff, Summary}
-use Rattle.drive_wire.specs.Saying as saying
-use Rattle.drive_wire.specs.{Saying.{Says, steps_said, is_in_place, when, is_open_token}, Sent.{base_of, or_no_text}}
-use Rattle.drive_wire.proofs.{Joining.says_append, Writing.{reads_entry, reads_close}}
+use Rattle.drive_visits.specs.{Nesting.{stands_as, walk}, Visits.{entry_kind, kind_if, plan_steps, Visit}, Visits.Visit.{Open, Add, Delete, Close}}
+use Rattle.reporter.specs.{Targets.{WholeReport, old_tree, new_tree}, declared.ask.Purpose.Purpose}
+use Rattle.reporter.specs.declared.ask.Purpose.TheVariants.{Update, Switch, Status, Diff, Summary}
+use Rattle.reporter.specs.{Saying.{Says, steps_said, is_in_place, when, is_open_token}, Sent.{base_of, or_no_text}}
+use Rattle.reporter.specs.Saying as saying
+use Rattle.reporter.proofs.{Joining.says_append, Writing.{reads_entry, reads_close}}
 use Rattle.drive_news.specs.{News.{news_at, news_steps, steps_if, own_steps_of, other_text, text_sent, old_entry}, declared.news.News.News}
 use Rattle.drive_sending.specs.Commands.{open_command, add_command, opened_entry, added_entry, news_commands, news_told, or_no_news, text_had, plan_commands}
 use Rattle.drive_sending.specs.{Commands.deeper_by, Tokens.token_of}

@@ -3,7 +3,7 @@ use Rattle.std.proofs.Common.{◌≡◌, false, [], sym, ap, ◌∙◌, if◌the
 use Rattle.svnpath.specs.Paths.{same_path}
 use Rattle.repo_api.specs.States.{RepoState}
 use Rattle.drive_rules.specs.Steps.EntryKind.{DirectoryKind}
-use Rattle.drive_reports.specs.Targets.{WholeReport}
+use Rattle.reporter.specs.Targets.{WholeReport}
 use Rattle.drive_news.specs.declared.news.News.{News}
 use Rattle.drive_sending.specs.{Commands.{news_commands, news_told, root_commands}, Tokens.token_of}
 

@@ -11,14 +11,14 @@ use Rattle.repo_laws.proofs.Standing.{right_where, short_where}
 use Rattle.drive_rules.specs.{Drives.{Differs, HasReason}, Places.is_in_directory, Scopes.depth_below, Steps.{is_named, node_of, Step}}
 use Rattle.drive_rules.specs.{declared.depth.Depth.Depth, declared.depth.Depth.TheVariants.{Empty, Files, Immediates, Infinity}}
 use Rattle.drive_rules.proofs.Joined.{and_front, named_append, or_cases, or_right}
-use Rattle.reporter.specs.{Nesting.{stands_as, walk}, Visits.{OwnSteps, entry_kind, kind_if, plan_steps, visit_steps}, Visits.Visit}
-use Rattle.reporter.specs.Visits.Visit.{Open, Add, Delete, Close}
-use Rattle.drive_reports.specs.Named.{IsNamed, AreNamed}
-use Rattle.drive_reports.specs.Reported.{ReportedEntry, ReportedTree, left_by, top_entry, reported_as, in_subtree, in_graft, has_place, with_graft}
-use Rattle.drive_reports.specs.{Aims.aim_at, Targets.{WholeReport, client_entries, client_tree, drive_scope, due_in, is_apart, is_stale, is_stale_token, is_to_be_opened, is_written_anew, keeps_report, new_tree, old_tree, stale_in, target_entries}}
-use Rattle.drive_reports.specs.{declared.graft.Graft.Graft, declared.graft.Subtree.Subtree}
-use Rattle.drive_reports.proofs.Aiming.{at_led, entry_is, entry_stands, IsFront, IsLed}
-use Rattle.drive_wire.specs.Sent.{counts_changes, or_no_text}
+use Rattle.drive_visits.specs.{Nesting.{stands_as, walk}, Visits.{OwnSteps, entry_kind, kind_if, plan_steps, visit_steps, Visit}}
+use Rattle.drive_visits.specs.Visits.Visit.{Open, Add, Delete, Close}
+use Rattle.reporter.specs.Named.{IsNamed, AreNamed}
+use Rattle.reporter.specs.{Reported.{ReportedEntry, ReportedTree, left_by, top_entry, reported_as, in_subtree, in_graft, has_place, with_graft}, Aims.aim_at}
+use Rattle.reporter.specs.Targets.{WholeReport, client_entries, client_tree, drive_scope, due_in, is_apart, is_stale, is_stale_token, is_to_be_opened}
+use Rattle.reporter.specs.{Targets.{is_written_anew, keeps_report, new_tree, old_tree, stale_in, target_entries}, declared.graft.Graft.Graft}
+use Rattle.reporter.specs.{declared.graft.Subtree.Subtree, Sent.{counts_changes, or_no_text}}
+use Rattle.reporter.proofs.Aiming.{at_led, entry_is, entry_stands, IsFront, IsLed}
 use Rattle.drive_sides.specs.Plans.{IsPlan, from_top}
 use Rattle.drive_sides.proofs.Listing.{in_old, in_new, under_target}
 use Rattle.drive_news.specs.News.{own_steps_of}

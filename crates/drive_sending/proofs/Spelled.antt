@@ -7,7 +7,7 @@ use Rattle.svnpath.specs.{Components.{is_forbidden, is_forbidden_byte, IsCompone
 use Rattle.svnpath.specs.{Texts.{components_of, is_slash}, declared.component.TheConstants.COMPONENT_LIMIT, declared.fault.PathFault.PathFault}
 use Rattle.svnpath.specs.declared.fault.PathFault.TheVariants.{EmptyComponent, ForbiddenComponent, TooLong}
 use Rattle.drive_rules.proofs.Joined.{or_false}
-use Rattle.drive_reports.specs.Named.{IsNamed}
+use Rattle.reporter.specs.Named.{IsNamed}
 use Rattle.drive_sending.specs.Tokens.{relative_text}
 
 -- the text of the path names the path

@@ -5,7 +5,7 @@ use Rattle.std.specs.{Fmt.decimal, Prelude.{if◌then◌else◌, nat_lt, replica
 use Rattle.svnpath.specs.{PathLaws.same_component_is, Paths.PathValue}
 use Rattle.wire_forms.specs.Forms.{is_name}
 use Rattle.drive_rules.specs.{Steps.EntryKind, Steps.EntryKind.{DirectoryKind, FileKind}}
-use Rattle.drive_wire.specs.{Saying.{OpenEntry, is_open_token}, Saying.TextState.Unchanged}
+use Rattle.reporter.specs.{Saying.{OpenEntry, is_open_token}, Saying.TextState.Unchanged}
 use Rattle.drive_sending.specs.Tokens.{count_text, token_of}
 
 -- what is open under the token of an entry that was entered while so many were open

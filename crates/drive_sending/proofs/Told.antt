@@ -7,9 +7,8 @@ use Rattle.repo_api.specs.{Kinds.{node_properties, or_empty}, Properties.{proper
 use Rattle.wire_forms.specs.Forms.{is_name}
 use Rattle.drive_rules.specs.{Steps.{is_entry_property, Step}, Steps.Step.PropertyAt}
 use Rattle.drive_rules.proofs.Joined.{or_false, and_front}
-use Rattle.reporter.specs.Own.{Change, property_steps, text_steps}
-use Rattle.drive_reports.specs.declared.ask.Purpose.{Purpose}
-use Rattle.drive_wire.specs.EntryProperties.{entry_property, told_by}
+use Rattle.drive_visits.specs.Own.{Change, property_steps, text_steps}
+use Rattle.reporter.specs.{declared.ask.Purpose.Purpose, EntryProperties.{entry_property, told_by}}
 use Rattle.drive_news.specs.{News.{entry_property_names, entry_changes, names_in_both, is_told, property_changes, news_of, news_steps}, declared.news.News.News}
 
 turned_false : (a b : List ℕ) → is_name a b ≡ false → is_name b a ≡ false

@@ -4,9 +4,8 @@ use Rattle.repo_api.specs.States.{RepoState}
 use Rattle.wire_edits.specs.declared.editing.EditorCommand.{EditorCommand}
 use Rattle.wire_replies.proofs.Parts.{part_all}
 use Rattle.wire_replies.specs.Sinks.{WritesPart}
-use Rattle.reporter.specs.{Visiting.MayVisit, Visits.Visit, Visits.Visit.{Open, Add, Delete, Close}}
-use Rattle.reporter.specs.declared.visitor.Visitor.{Visitor}
-use Rattle.drive_reports.specs.Targets.{WholeReport}
+use Rattle.drive_visits.specs.{Visiting.MayVisit, Visits.Visit, Visits.Visit.{Open, Add, Delete, Close}, declared.visitor.Visitor.Visitor}
+use Rattle.reporter.specs.Targets.{WholeReport}
 use Rattle.drive_sides.proofs.Existing.{some_visits}
 use Rattle.drive_sides.specs.{Plans.drive_trees, declared.known.DriveKnown.DriveKnown}
 use Rattle.drive_sending.specs.{Commands.{around_after, plan_commands, visit_commands}, Driving.{Visiting, command_bytes}}

@@ -10,10 +10,9 @@ use Rattle.wire_edits.specs.declared.editing.EditorCommand.TheVariants.{DeleteEn
 use Rattle.wire_edits.specs.declared.editing.EditorCommand.TheVariants.{ChangeFileProperty, CloseDirectory, CloseFile}
 use Rattle.wire_edits.specs.declared.editing.OpenedEntry.{OpenedEntry}
 use Rattle.drive_rules.specs.{Steps.EntryKind, Steps.EntryKind.{DirectoryKind, FileKind}}
-use Rattle.reporter.specs.{Own.Change, Visits.{kind_if, Visit}, Visits.Visit.{Open, Add, Delete, Close}}
-use Rattle.drive_reports.specs.{Targets.{WholeReport, client_tree, new_tree, old_tree}, declared.ask.Purpose.Purpose}
-use Rattle.drive_reports.specs.declared.ask.Purpose.TheVariants.{Update, Switch, Status, Diff, Summary}
-use Rattle.drive_wire.specs.Sent.{framed, or_no_text}
+use Rattle.drive_visits.specs.{Own.Change, Visits.{kind_if, Visit}, Visits.Visit.{Open, Add, Delete, Close}}
+use Rattle.reporter.specs.{Targets.{WholeReport, client_tree, new_tree, old_tree}, declared.ask.Purpose.Purpose}
+use Rattle.reporter.specs.{declared.ask.Purpose.TheVariants.{Update, Switch, Status, Diff, Summary}, Sent.{framed, or_no_text}}
 use Rattle.drive_news.specs.{News.{news_at, old_entry}, declared.news.News.News}
 use Rattle.wire_deltas.specs.Texts.{text_commands}
 use Rattle.drive_sending.specs.Tokens.{token_of, relative_text}

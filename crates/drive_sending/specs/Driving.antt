@@ -4,9 +4,8 @@ use Rattle.repo_api.specs.{States.RepoState, declared.repository.Repository.Ghos
 use Rattle.wire_edits.specs.declared.editing.EditorCommand.{EditorCommand}
 use Rattle.wire_replies.specs.{Replies.print, Sinks.{Writes, WritesPart}, declared.reply.Reply.Reply}
 use Rattle.wire_replies.specs.declared.reply.Reply.TheVariants as replies
-use Rattle.reporter.specs.{Visiting.MayVisit, Walks.WalkedTrees, Visits.Visit, declared.visitor.Visitor.Visitor}
-use Rattle.drive_reports.specs.Targets.{WholeReport}
-use Rattle.drive_wire.specs.Sent.{IsDrive}
+use Rattle.drive_visits.specs.{Visiting.MayVisit, Walks.WalkedTrees, Visits.Visit, declared.visitor.Visitor.Visitor}
+use Rattle.reporter.specs.{Targets.WholeReport, Sent.IsDrive}
 use Rattle.drive_sides.specs.{OnTrees.on_trees, Plans.drive_trees, declared.known.DriveKnown.DriveKnown, declared.two_trees.TwoTrees.TwoTrees}
 
 -- visits that a visitor may have left, of which this is so

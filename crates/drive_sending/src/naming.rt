@@ -1,6 +1,6 @@
 //! Tokens, and the texts of paths.
 ghost use Rattle.std.specs.Prelude.{◌∷◌};
-ghost use Rattle.reporter.specs.Visits.{kind_if};
+ghost use Rattle.drive_visits.specs.Visits.{kind_if};
 ghost use Rattle.drive_sending.specs.Tokens.{count_text, relative_text, token_of};
 ghost use Rattle.wire_replies.specs.Made.{Makes};
 

@@ -1,19 +1,18 @@
 //! What entries are told. Where one of these fails, a part of what it says was written.
 ghost use Rattle.std.specs.Prelude.{◌≡◌, ◌<◌, ◌+◌, ◌^◌, ℕ, List, [], map, option_copied};
 ghost use Rattle.wire_deltas.specs.Texts.{text_or_empty};
-ghost use Rattle.reporter.specs.Visits.{kind_if};
+ghost use Rattle.drive_visits.specs.Visits.{kind_if};
 ghost use Rattle.drive_sending.specs.{Commands.{property_command, news_commands, or_no_news}, Driving.Sends, Tokens.token_of};
 ghost use Rattle.wire_replies.specs.Made.{Makes};
 ghost use Rattle.drive_rules.specs.Steps.EntryKind.{DirectoryKind, FileKind};
-ghost use Rattle.drive_reports.specs.declared.ask.Purpose.{Purpose};
+ghost use Rattle.reporter.specs.declared.ask.Purpose.{Purpose};
 
 use crate::naming::token;
 use crate::saying::say_made;
 use crate::texts::{Basis, say_file_end};
-use byte_string::ByteString;
+use byte_string::{ByteString, Sequence};
 use drive_news::{News, PropertyChanges};
 use repo_api::PropertyValue;
-use sequence::Sequence;
 use std::alloc::{AllocError, Global};
 use wire_edits::{EditorCommand, PropertyChange};
 use wire_replies::ReplySink;

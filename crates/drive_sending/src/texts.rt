@@ -6,8 +6,8 @@ ghost use Rattle.wire_replies.specs.Made.{Makes};
 
 use crate::saying::say_made;
 use byte_string::ByteString;
-use drive_reports::Purpose;
 use repo_api::FileText;
+use reporter::Purpose;
 use std::alloc::{AllocError, Global};
 use wire_deltas::say_text;
 use wire_edits::EditorCommand;

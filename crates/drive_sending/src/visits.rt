@@ -2,7 +2,7 @@
 ghost use Rattle.std.specs.Prelude.{◌≡◌, ◌<◌, ◌+◌, ◌^◌, ◌∷◌, [], false, option_copied};
 ghost use Rattle.wire_deltas.specs.Texts.{text_or_empty};
 ghost use Rattle.drive_rules.specs.Steps.EntryKind.{DirectoryKind};
-ghost use Rattle.reporter.specs.{Knowing.{HoldsKnown, IsKnown, IsVisitKnown, visit_of}, Visits.{Visit, kind_if}};
+ghost use Rattle.drive_visits.specs.{Knowing.{HoldsKnown, IsKnown, IsVisitKnown, visit_of}, Visits.{Visit, kind_if}};
 ghost use Rattle.drive_sides.specs.{Known.IsKnownOf, OnTrees.on_trees};
 ghost use Rattle.drive_sending.specs.Commands.{add_command, added_entry, around_after, deeper_by, deleted_entry, news_told, open_command, opened_entry};
 ghost use Rattle.drive_sending.specs.{Commands.{text_had, IsSentOver, plan_commands, visit_commands}, Driving.{Sends, SendsVisits}, Tokens.token_of};
@@ -14,8 +14,8 @@ use crate::telling::{Entrance, or_no_news, say_news};
 use crate::texts::Basis;
 use drive_news::News;
 use drive_sides::{DrivePlace, DriveVisit, DriveVisitor, TwoTrees};
+use drive_visits::{KnownVisit, Sides};
 use repo_api::{FileText, Repository};
-use reporter::{KnownVisit, Sides};
 use std::alloc::{AllocError, Global};
 use svnpath::Path;
 use wire_edits::{AddedEntry, DeletedEntry, EditorCommand, OpenedEntry};

@@ -4,10 +4,11 @@ use Rattle.std.specs.Prelude.{is_some}
 use Rattle.svnpath.specs.Paths.{PathValue}
 use Rattle.repo_api.specs.{States.{RepoState, trees_in}, Trees.{revision_of, text_of, Tree}, declared.entry.Entry.Entry}
 use Rattle.drive_rules.specs.{Scopes.within, Steps.node_of}
-use Rattle.reporter.specs.Walks.{IsSame}
-use Rattle.drive_reports.specs.{Aims.aim_at, Places.{in_place, reported_subtree}, Reported.{ReportedEntry, reported_as, top_entry}, declared.graft.Subtree.Subtree}
-use Rattle.drive_reports.specs.{Targets.{WholeReport, client_entries, drive_scope, is_stale, is_to_be_opened, new_tree, old_tree, target_entries}, declared.reported.ReportedPlace.ReportedPlace}
-use Rattle.drive_reports.proofs.Aiming.{entry_stands}
+use Rattle.drive_visits.specs.Walks.{IsSame}
+use Rattle.reporter.specs.{Aims.aim_at, Places.{in_place, reported_subtree}, Reported.{ReportedEntry, reported_as, top_entry}, declared.graft.Subtree.Subtree}
+use Rattle.reporter.specs.Targets.{WholeReport, client_entries, drive_scope, is_stale, is_to_be_opened, new_tree, old_tree, target_entries}
+use Rattle.reporter.specs.declared.reported.ReportedPlace.{ReportedPlace}
+use Rattle.reporter.proofs.Aiming.{entry_stands}
 use Rattle.drive_news.specs.{Places.entry_had, declared.news.Had.Had}
 use Rattle.drive_sides.specs.{Known.{IsHadAt, IsKnownOf}, Plans.drive_trees, declared.known.DriveKnown.DriveKnown}
 

@@ -4,13 +4,12 @@ use Rattle.std.proofs.{lemmas.Bool.false≢true, lemmas.List.append_assoc}
 use Rattle.svnpath.specs.{PathLaws.{rest_append, under_is}, Paths.{Component, is_at_or_under, PathValue}}
 use Rattle.repo_api.specs.{States.RepoState, Trees.Tree}
 use Rattle.drive_rules.proofs.Joined.{and_front}
-use Rattle.drive_rules.specs.declared.depth.Depth.{Depth}
-use Rattle.drive_rules.specs.Scopes.{depth_said, DepthLimit, includes, own_or_inherited, scope_of, stays_in_scope, top_limit}
+use Rattle.drive_rules.specs.{declared.depth.Depth.Depth, Scopes.{depth_said, DepthLimit, includes, own_or_inherited, scope_of, stays_in_scope, top_limit}}
 use Rattle.drive_rules.specs.declared.depth.Depth.TheVariants.{Empty, Files, Immediates, Infinity}
-use Rattle.drive_reports.specs.Targets.{WholeReport, counted_entries, depth_inherited, depth_kept, drive_limit, drive_scope, first_depth, is_hidden, limit_of, target_entries}
-use Rattle.drive_reports.proofs.Aiming.{counted_some}
-use Rattle.drive_reports.specs.declared.ask.DepthAsked.{DepthAsked}
-use Rattle.drive_reports.specs.declared.ask.DepthAsked.TheVariants as asks
+use Rattle.reporter.specs.Targets.{WholeReport, counted_entries, depth_inherited, depth_kept, drive_limit, drive_scope, first_depth, is_hidden, limit_of}
+use Rattle.reporter.specs.{Targets.target_entries, declared.ask.DepthAsked.DepthAsked}
+use Rattle.reporter.proofs.Aiming.{counted_some}
+use Rattle.reporter.specs.declared.ask.DepthAsked.TheVariants as asks
 use Rattle.drive_sides.specs.Depths.{depth_at, depth_down, reach_of, Reaches}
 use Rattle.drive_sides.proofs.Reaching.{next_name, no_more}
 

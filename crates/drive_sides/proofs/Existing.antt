@@ -6,22 +6,21 @@ use Rattle.std.proofs.lemmas.Option.{same_Some}
 use Rattle.std.specs.Prelude.{IsSome, is_some}
 use Rattle.svnpath.specs.PathLaws.{rest_append, same_component_is, same_component_refl, under_append, under_is}
 use Rattle.svnpath.specs.Paths.{Component, is_at_or_under, PathValue, same_component}
-use Rattle.repo_api.specs.{Properties.PropertyList, Readings.{is_name_among, names_at}, States.{RepoState, tree_at, trees_in}, Trees.{content_text, revision_of, Tree}}
-use Rattle.repo_api.specs.{declared.entry.Content.Content, declared.entry.Content.TheVariants.{Directory, File}, declared.entry.Entry.Entry}
+use Rattle.repo_api.specs.{Properties.PropertyList, Readings.{is_name_among, names_at}, States.{RepoState, tree_at, trees_in}}
+use Rattle.repo_api.specs.{Trees.{content_text, revision_of, Tree}, declared.entry.Content.Content, declared.entry.Content.TheVariants.{Directory, File}}
+use Rattle.repo_api.specs.declared.entry.Entry.{Entry}
 use Rattle.drive_rules.proofs.Joined.{any_append, or_left, or_right, and_both}
 use Rattle.drive_rules.specs.{Scopes.{below, depth_below}, Steps.{node_of, property_values}, declared.depth.Depth.Depth}
 use Rattle.drive_rules.specs.declared.depth.Depth.TheVariants.{Empty, Files, Immediates, Infinity}
-use Rattle.drive_wire.specs.Sent.{counts_changes}
+use Rattle.reporter.specs.{Sent.counts_changes, Reported.{ReportedTree, has_place, in_graft, in_subtree, left_by, reported_as, with_graft}, Aims.aim_at}
+use Rattle.reporter.specs.{Targets.{WholeReport, due_in, new_tree, old_tree}, declared.graft.Graft.Graft, declared.graft.Subtree.Subtree}
 use Rattle.drive_news.proofs.Changes.{none_changed}
 use Rattle.drive_news.specs.{News.property_changes, Places.{AreLike, AreUnlike}}
-use Rattle.reporter.proofs.{Children.{AreDistinct, children_all, children_are}, Existing.{IsDecided, some_left}}
-use Rattle.reporter.specs.{Left.IsLeft, Visiting.MayVisit, Walks.IsListed, Visits.Visit, declared.visitor.Visitor.Visitor}
-use Rattle.drive_reports.proofs.Holding.{comparable}
-use Rattle.drive_reports.specs.Reported.{ReportedTree, has_place, in_graft, in_subtree, left_by, reported_as, with_graft}
-use Rattle.drive_reports.specs.{Aims.aim_at, Targets.{WholeReport, due_in, new_tree, old_tree}, declared.graft.Graft.Graft, declared.graft.Subtree.Subtree}
+use Rattle.drive_visits.proofs.{Children.{AreDistinct, children_all, children_are}, Existing.{IsDecided, some_left}}
+use Rattle.drive_visits.specs.{Left.IsLeft, Visiting.MayVisit, Walks.IsListed, Visits.Visit, declared.visitor.Visitor.Visitor}
+use Rattle.reporter.proofs.Holding.{comparable}
 use Rattle.drive_sides.proofs.{Listing.{among_over, among_target, above_child, in_new, in_old, under_target}, Naming.among_there}
-use Rattle.drive_sides.specs.{BoundLaws.new_is_shorter, Bounds.path_bound, LeadLaws.news_leads, Names.{children_of, graft_names}}
-use Rattle.drive_sides.specs.Plans.{drive_trees}
+use Rattle.drive_sides.specs.{BoundLaws.new_is_shorter, Bounds.path_bound, LeadLaws.news_leads, Names.{children_of, graft_names}, Plans.drive_trees}
 
 -- ---- whether entries differ
 

@@ -1,16 +1,19 @@
 -- What is known of the paths of a drive, and in their lists.
-use Rattle.std.proofs.{Common.{◌≡◌, Bool, true, false, cond, ◌&&◌, List, [], ◌∷◌, ◌++◌, length, drop, Option, None, option_map, inl, inr, sym, ap, ◌∙◌, refl, subst}, lemmas.{Bool.false≢true, List.{append_assoc, map-append}}}
+use Rattle.std.proofs.Common.{◌≡◌, Bool, true, false, cond, ◌&&◌, List, [], ◌∷◌, ◌++◌, length, drop, Option, None, option_map, inl, inr, sym, ap, ◌∙◌, refl}
+use Rattle.std.proofs.{Common.subst, lemmas.Bool.false≢true, lemmas.List.{append_assoc, map-append}}
 use Rattle.std.specs.{Option.option_map_or, Prelude.{IfOk, Result, Ok, Err, Some, is_some}}
 use Rattle.svnpath.specs.{PathLaws.{rest_append, under_append}, Paths.{Component, is_at_or_under, PathValue}}
 use Rattle.repo_api.specs.{Histories.history_of, Kinds.kind_of, States.{RepoState, trees_in}, declared.entry.Entry.Entry, declared.entry.NodeKind.NodeKind}
 use Rattle.history.specs.{Lines.is_one_line, Logs.place_at}
 use Rattle.drive_rules.proofs.Entries.{under_more}
-use Rattle.reporter.specs.{Knowing.{IsKnownAt, paths_of}, Walks.{AreAlike, IsChild, LeavesUnlike, WalkedTrees}, declared.known_path.KnownPath.KnownPath}
-use Rattle.drive_reports.specs.{Aims.{Aim, aim_at, aim_of, are_of_one_kind, entry_led, is_of_line, keeps_line}, Links.{led_to, link_at}, Places.reported_subtree, Reported.{ReportedEntry, reported_as, top_entry}}
-use Rattle.drive_reports.specs.{Targets.{WholeReport, client_entries, client_tree, counted_entries, is_written_anew}, declared.graft.Subtree.Subtree, declared.reported.ReportedPlace.ReportedPlace}
-use Rattle.drive_reports.specs.declared.graft.Graft.{Graft}
-use Rattle.drive_reports.proofs.Aiming.{aim_child}
-use Rattle.drive_sides.specs.{Depths.IsOfPlace, Known.{holder_at, IsHadAt, IsKnownOf, IsLedBy, IsLedFrom}, declared.known.DriveKnown.DriveKnown, declared.leading.Holder.Holder}
+use Rattle.drive_visits.specs.{Knowing.{IsKnownAt, paths_of}, Walks.{AreAlike, IsChild, LeavesUnlike, WalkedTrees}, declared.known_path.KnownPath.KnownPath}
+use Rattle.reporter.specs.{Aims.{Aim, aim_at, aim_of, are_of_one_kind, entry_led, is_of_line, keeps_line}, Links.{led_to, link_at}, Places.reported_subtree}
+use Rattle.reporter.specs.Reported.{ReportedEntry, reported_as, top_entry}
+use Rattle.reporter.specs.{Targets.{WholeReport, client_entries, client_tree, counted_entries, is_written_anew}, declared.graft.Subtree.Subtree}
+use Rattle.reporter.specs.{declared.reported.ReportedPlace.ReportedPlace, declared.graft.Graft.Graft}
+use Rattle.reporter.proofs.Aiming.{aim_child}
+use Rattle.drive_sides.specs.{Depths.IsOfPlace, Known.{holder_at, IsHadAt, IsKnownOf, IsLedBy, IsLedFrom}, declared.known.DriveKnown.DriveKnown}
+use Rattle.drive_sides.specs.declared.leading.Holder.{Holder}
 
 -- what is in a directory at or under the target is under it
 pub child_in : (top p x : PathValue) → is_at_or_under p top ≡ true → IsChild p x → is_at_or_under x top ≡ true

@@ -4,15 +4,16 @@ use Rattle.std.proofs.{Common.{Err, ◌⊎◌, inl, inr, ⊎_elim, refl, sym, ap
 use Rattle.std.proofs.lemmas.List.{append-nil, length-append}
 use Rattle.std.specs.{List.list_any, Prelude.{IsTrue, IsSome, IsSomeAnd, IfOk, OnOk, is_some}}
 use Rattle.svnpath.specs.{PathLaws.{same_component_refl, under_append, under_is}, Paths.{Component, is_at_or_under, PathValue}}
-use Rattle.repo_api.specs.{Readings.{is_name_among, name_in, names_at}, States.{RepoState, tree_at, trees_in}, Trees.{is_directory, Tree}, declared.entry.Entry.Entry}
+use Rattle.repo_api.specs.{Readings.{is_name_among, name_in, names_at}, States.{RepoState, tree_at, trees_in}, Trees.{is_directory, Tree}}
+use Rattle.repo_api.specs.declared.entry.Entry.{Entry}
 use Rattle.drive_rules.proofs.{Joined.{or_left, or_right}, Entries.{no_length, under_more}}
 use Rattle.drive_rules.specs.{Scopes.{below, depth_below, HoldsTogether, within}, declared.depth.Depth.Depth}
 use Rattle.drive_rules.specs.declared.depth.Depth.TheVariants.{Empty, Files, Immediates, Infinity}
-use Rattle.drive_reports.proofs.{Aiming.named_in, Holding.{all_hold, below_longer, longer_below}}
-use Rattle.drive_reports.specs.Places.{AllHoldTogether, in_place, is_grafted_over, reported_subtree}
-use Rattle.drive_reports.specs.Reported.{ReportedEntry, left_by, reported_entries, reported_as}
-use Rattle.drive_reports.specs.{Aims.aim_at, Targets.{WholeReport, client_entries, client_tree, drive_scope, new_tree, old_tree, target_entries}}
-use Rattle.drive_reports.specs.{declared.graft.Graft.Graft, declared.reported.ReportedPlace.ReportedPlace}
+use Rattle.reporter.proofs.{Aiming.named_in, Holding.{all_hold, below_longer, longer_below}}
+use Rattle.reporter.specs.Places.{AllHoldTogether, in_place, is_grafted_over, reported_subtree}
+use Rattle.reporter.specs.{Reported.{ReportedEntry, left_by, reported_entries, reported_as}, Aims.aim_at}
+use Rattle.reporter.specs.{Targets.{WholeReport, client_entries, client_tree, drive_scope, new_tree, old_tree, target_entries}, declared.graft.Graft.Graft}
+use Rattle.reporter.specs.declared.reported.ReportedPlace.{ReportedPlace}
 use Rattle.drive_sides.specs.{Depths.IsAlone, Names.{graft_names, NameNew, NameTarget}}
 use Rattle.drive_sides.proofs.Naming.{among_there, among_grafts, is_named, name_of_child}
 

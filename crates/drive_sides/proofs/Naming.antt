@@ -9,7 +9,7 @@ use Rattle.svnpath.specs.Paths.{Component, PathValue, same_component, same_path}
 use Rattle.drive_rules.proofs.Joined.{or_left, or_right}
 use Rattle.repo_api.specs.{Readings.{is_name_among, name_in, names_among, names_in, sole}, States.TreeMap}
 use Rattle.drive_sides.specs.{BoundLaws.key_found, Names.{graft_names, AreDistinct}}
-use Rattle.drive_reports.specs.declared.graft.Graft.{Graft}
+use Rattle.reporter.specs.declared.graft.Graft.{Graft}
 use denote.Ref.{Bor}
 
 -- ---- a set of names

@@ -1,21 +1,19 @@
 -- The plan of a drive.
-use Rattle.std.proofs.Common.{◌≡◌, ◌==◌, ◌+◌, not, option_map, Bool, true, false, cond, ◌&&◌, ◌||◌, List, [], ◌∷◌, length, Option, Some, None, Ok, refl}
-use Rattle.std.proofs.{Common.{sym, ap, ◌∙◌, subst}, lemmas.Bool.false≢true}
+use Rattle.std.proofs.Common.{◌≡◌, ◌==◌, ◌+◌, not, option_map, Bool, true, false, cond, ◌&&◌, ◌||◌, List, [], ◌∷◌, length, Option, Some, None, Ok, refl, sym}
+use Rattle.std.proofs.{Common.{ap, ◌∙◌, subst}, lemmas.Bool.false≢true}
 use Rattle.drive_rules.proofs.Joined.{or_right}
 use Rattle.std.specs.Prelude.{ok_or, is_some, IsSomeAnd, IsTrue}
 use Rattle.svnpath.specs.{PathLaws.{same_path_is, same_path_refl}, Paths.{is_at_or_under, PathValue, same_path}}
 use Rattle.refusals.specs.declared.Refusal.TheVariants as refusals
 use Rattle.repo_api.specs.{Soundness.AreTrees, States.{RepoState, trees_in}, Trees.{HasDirectory, is_directory, is_directory_there}, declared.entry.Entry.Entry}
 use Rattle.drive_rules.specs.{Places.is_in_directory, Drives.{IsInBoth, IsOfOneKind}, Scopes.{below, scope_of, under}}
-use Rattle.drive_wire.specs.Sent.{counts_of}
+use Rattle.reporter.specs.{Sent.counts_of, Refusing.{OpenState, ◌>>=◌, ok_if, has_goal, has_anchor, finish_root}, Reported.{ReportedEntry, reported_entries}}
+use Rattle.reporter.specs.{Aims.aim_at, Targets.{WholeReport, client_entries, client_tree, counted_entries, depth_inherited, drive_limit, drive_scope, due_in}}
+use Rattle.reporter.specs.{Targets.{reported_tree, is_apart, is_hidden, old_tree, new_tree, target_entries}, declared.report.ReportRoot.ReportRoot}
 use Rattle.drive_news.specs.News.{own_steps_of}
-use Rattle.reporter.specs.{Left.{IsRootPlan, IsTopPlan}, Nesting.AreNested, Visits.IsRightPlan, Walks.BothHold, Visits.Visit}
-use Rattle.reporter.specs.Visits.Visit.{Open}
-use Rattle.drive_reports.proofs.{Aiming.{apart_under, both_directories, one_kind, other_stays, root_entry, root_stays, stays_kind}, Drives.both_hold}
-use Rattle.drive_reports.specs.{Refusing.{OpenState, ◌>>=◌, ok_if, has_goal, has_anchor, finish_root}, Reported.{ReportedEntry, reported_entries}}
-use Rattle.drive_reports.specs.{Aims.aim_at, Targets.{WholeReport, client_entries, client_tree, counted_entries, depth_inherited, drive_limit, drive_scope, due_in, reported_tree, is_apart, is_hidden, old_tree, new_tree, target_entries}}
-use Rattle.drive_reports.specs.declared.report.ReportRoot.{ReportRoot}
-use Rattle.drive_reports.specs.Reported as reported
+use Rattle.drive_visits.specs.{Left.{IsRootPlan, IsTopPlan}, Nesting.AreNested, Visits.{IsRightPlan, Visit}, Walks.BothHold, Visits.Visit.Open}
+use Rattle.reporter.proofs.{Aiming.{apart_under, both_directories, one_kind, other_stays, root_entry, root_stays, stays_kind}, Drives.both_hold}
+use Rattle.reporter.specs.Reported as reported
 use Rattle.drive_sides.specs.Plans.{IsPlan, drive_trees, whole}
 
 -- ---- what is known of a report that has come to its end

@@ -7,14 +7,15 @@ use Rattle.drive_rules.specs.declared.depth.Depth.{Depth}
 use Rattle.drive_rules.specs.Scopes.{depth_added, depth_below, depth_said, DepthLimit, includes, own_or_inherited, scope_of, stays_in_scope, top_limit}
 use Rattle.drive_rules.specs.{Scopes.DepthLimit.{Given, Reported}, declared.depth.Depth.TheVariants.{Empty, Files, Immediates, Infinity}}
 use Rattle.std.specs.{Prelude.{Option, Some, None, cond, is_some, fold, option_map, option_and_then}, List.list_any, Option.option_map_or}
-use Rattle.drive_reports.specs.Reported.{ReportedEntry, ReportedTree, reported_as, top_entry, left_by, in_subtree, in_graft, with_graft}
-use Rattle.drive_reports.specs.{Reported.{has_place, has_directory}, declared.ask.DriveAsk.DriveAsk, declared.graft.Graft.Graft, declared.graft.Subtree.Subtree}
-use Rattle.drive_reports.specs.{Targets.{WholeReport, client_tree, counted_entries, depth_inherited, depth_kept, drive_scope, first_depth, is_hidden, keeps_report, limit_of, reported_depth, target_entries}, Aims.aim_at, Depths.{asks_for_all, is_shallow, is_to_the_end}, Links.is_excluding}
-use Rattle.drive_reports.proofs.Linking.{none_excluded}
-use Rattle.drive_reports.specs.declared.ask.DepthAsked.{DepthAsked}
+use Rattle.reporter.specs.Reported.{ReportedEntry, ReportedTree, reported_as, top_entry, left_by, in_subtree, in_graft, with_graft, has_place, has_directory}
+use Rattle.reporter.specs.{declared.ask.DriveAsk.DriveAsk, declared.graft.Graft.Graft, declared.graft.Subtree.Subtree, Targets.{WholeReport, client_tree}}
+use Rattle.reporter.specs.Targets.{counted_entries, depth_inherited, depth_kept, drive_scope, first_depth, is_hidden, keeps_report, limit_of, reported_depth}
+use Rattle.reporter.specs.{Targets.target_entries, Aims.aim_at, Depths.{asks_for_all, is_shallow, is_to_the_end}, Links.is_excluding}
+use Rattle.reporter.specs.declared.ask.DepthAsked.{DepthAsked}
+use Rattle.reporter.proofs.Linking.{none_excluded}
 use Rattle.drive_sides.specs.Depths.{FollowsWholeReport}
 use Rattle.drive_rules.proofs.Joined.{or_false}
-use Rattle.drive_reports.specs.declared.ask.DepthAsked.TheVariants as asks
+use Rattle.reporter.specs.declared.ask.DepthAsked.TheVariants as asks
 
 -- what is inherited of everything is everything
 pub inherits_all : (ask : DriveAsk) → depth_inherited ask Infinity ≡ Infinity

@@ -1,22 +1,26 @@
 -- Where both sides are the same.
-use Rattle.drive_sides.specs.{Depths.IsWhole, Lines.KeepsLines, Pairs.{AreOnePair, HasNoGraft, IsOfAll, IsPairAt, IsPairBeside}, Plans.drive_trees, declared.pairs.EntryPair.EntryPair}
-use Rattle.std.proofs.Common.{◌≡◌, ◌<◌, arith, if◌then◌else◌, ℕ, Bool, true, false, cond, ◌&&◌, ◌||◌, not, List, [], ◌∷◌, ◌++◌, length, drop, Option, Some, None, refl, sym}
-use Rattle.std.proofs.{Common.{ap, ◌∙◌, subst, option_map}, lemmas.Bool.false≢true, lemmas.List.{append_assoc, append-nil, length-append}}
+use Rattle.drive_sides.specs.{Depths.IsWhole, Lines.KeepsLines, Pairs.{AreOnePair, HasNoGraft, IsOfAll, IsPairAt, IsPairBeside}, Plans.drive_trees}
+use Rattle.drive_sides.specs.declared.pairs.EntryPair.{EntryPair}
+use Rattle.std.proofs.Common.{◌≡◌, ◌<◌, arith, if◌then◌else◌, ℕ, Bool, true, false, cond, ◌&&◌, ◌||◌, not, List, [], ◌∷◌, ◌++◌, length, drop, Option, Some}
+use Rattle.std.proofs.{Common.{None, refl, sym, ap, ◌∙◌, subst, option_map}, lemmas.Bool.false≢true, lemmas.List.{append_assoc, append-nil, length-append}}
 use Rattle.std.specs.{List.list_any, Option.option_map_or, Prelude.{IfSome, IsSomeAnd, IsTrue, is_some, option_and_then}}
 use Rattle.svnpath.specs.{PathLaws.{under_append, under_is}, Paths.{Component, is_at_or_under, PathValue}}
 use Rattle.repo_api.specs.{Histories.history_of, Readings.IsSameAt, States.{RepoState, trees_in}, Trees.{Tree, is_directory}, declared.entry.Entry.Entry}
 use Rattle.drive_rules.proofs.{Entries.under_more, Joined.or_false}
 use Rattle.drive_rules.specs.{Drives.IsInBoth, Scopes.{below, depth_below}, declared.depth.Depth.TheVariants.Infinity}
-use Rattle.reporter.specs.Walks.{AreAlike, IsSamePair}
+use Rattle.drive_visits.specs.Walks.{AreAlike, IsSamePair}
 use Rattle.traces.specs.declared.place.Place.{Place}
 use Rattle.history.specs.{Lines.{is_one_line, line_start, place_beneath, same_place}, Logs.place_at}
 use Rattle.history.proofs.AllLines.{one_line_met}
 use Rattle.drive_sides.proofs.Ungrafted.{entry_in, line_in, not_over}
-use Rattle.drive_reports.proofs.{Aiming.{Line, all_stay, entry_beneath, keeps_line_in, line_beneath, same_kind, same_stays, stays_entry, stays_next}, Holding.{all_hold, longer_below}, Whole.in_whole}
-use Rattle.drive_reports.specs.{Aims.{aim_at, are_of_one_kind, counts_ancestry, is_of_line}, Depths.{asks_for_all, is_to_the_end}, Places.{AllHoldTogether, in_place, is_grafted_over, reported_subtree}}
-use Rattle.drive_reports.specs.{Reported.{ReportedEntry, reported_entries, left_by, reported_as, top_entry}, Targets.{WholeReport, client_entries, client_tree, drive_scope}}
-use Rattle.drive_reports.specs.Targets.{due_in, is_apart, is_stale, is_stale_token, is_to_be_opened, is_written_anew, keeps_report, new_tree, old_tree, target_entries}
-use Rattle.drive_reports.specs.{declared.ask.DriveAsk.DriveAsk, declared.graft.Graft.Graft, declared.graft.Subtree.Subtree, declared.reported.ReportedPlace.ReportedPlace}
+use Rattle.reporter.proofs.Aiming.{Line, all_stay, entry_beneath, keeps_line_in, line_beneath, same_kind, same_stays, stays_entry, stays_next}
+use Rattle.reporter.proofs.{Holding.{all_hold, longer_below}, Whole.in_whole}
+use Rattle.reporter.specs.{Aims.{aim_at, are_of_one_kind, counts_ancestry, is_of_line}, Depths.{asks_for_all, is_to_the_end}}
+use Rattle.reporter.specs.Places.{AllHoldTogether, in_place, is_grafted_over, reported_subtree}
+use Rattle.reporter.specs.{Reported.{ReportedEntry, reported_entries, left_by, reported_as, top_entry}, Targets.{WholeReport, client_entries, client_tree}}
+use Rattle.reporter.specs.Targets.{drive_scope, due_in, is_apart, is_stale, is_stale_token, is_to_be_opened, is_written_anew, keeps_report, new_tree, old_tree}
+use Rattle.reporter.specs.{Targets.target_entries, declared.ask.DriveAsk.DriveAsk, declared.graft.Graft.Graft, declared.graft.Subtree.Subtree}
+use Rattle.reporter.specs.declared.reported.ReportedPlace.{ReportedPlace}
 
 none_over : (grafts : List Graft) (p q : PathValue) → list_any (λ (g : Graft). below p g.path) grafts ≡ false → is_grafted_over grafts p q ≡ false
 none_over [] p q none = refl

@@ -1,17 +1,18 @@
 -- Entries of a directory that have no graft: where they are led.
-use Rattle.std.proofs.Common.{◌≡◌, ◌+◌, ◌<◌, arith, Bool, true, false, cond, ◌&&◌, ◌||◌, not, List, [], ◌∷◌, ◌++◌, length, drop, Option, Some, None, refl, sym, ap, ◌∙◌, subst}
-use Rattle.std.proofs.{Common.{if◌then◌else◌, option_map}, lemmas.Bool.{false≢true, and_parts, or_from, or_parts}, lemmas.List.{append_assoc, append-nil, length-append}}
+use Rattle.std.proofs.Common.{◌≡◌, ◌+◌, ◌<◌, arith, Bool, true, false, cond, ◌&&◌, ◌||◌, not, List, [], ◌∷◌, ◌++◌, length, drop, Option, Some, None, refl, sym}
+use Rattle.std.proofs.{Common.{ap, ◌∙◌, subst, if◌then◌else◌, option_map}, lemmas.Bool.{false≢true, and_parts, or_from, or_parts}}
+use Rattle.std.proofs.lemmas.List.{append_assoc, append-nil, length-append}
 use Rattle.std.specs.{List.list_any, Prelude.{IsSomeAnd, IsTrue, is_some, map, slice_get}}
 use Rattle.svnpath.specs.PathLaws.{rest_append, same_component_is, same_component_refl, same_path_is, same_path_refl, under_append, under_is, under_itself}
 use Rattle.svnpath.specs.Paths.{Component, is_at_or_under, PathValue, same_component, same_path}
 use Rattle.repo_api.specs.{Readings.rest_beneath, States.{RepoState, trees_in}, Trees.{is_directory, is_directory_there, Tree}, declared.entry.Entry.Entry}
 use Rattle.drive_rules.proofs.Entries.{below_apart, below_under, under_more}
 use Rattle.drive_rules.specs.Scopes.{below, HoldsTogether}
-use Rattle.drive_reports.proofs.Aiming.{aim_child, counts_in, entry_beneath, from_beneath, keeps_line_in, may_stand_in}
-use Rattle.drive_reports.proofs.{Holding.longer_below, Linking.{link_among, unlinked_beneath}}
-use Rattle.drive_reports.specs.Aims.{Aim, aim_at, counts_ancestry, entry_led, is_of_line, keeps_line}
-use Rattle.drive_reports.specs.{Links.{led_to, link_at}, Places.{AllHoldTogether, is_grafted_over}, Reported.ReportedEntry, Targets.{WholeReport, client_tree}}
-use Rattle.drive_reports.specs.{declared.ask.DriveAsk.DriveAsk, declared.graft.Graft.Graft}
+use Rattle.reporter.proofs.{Aiming.{aim_child, counts_in, entry_beneath, from_beneath, keeps_line_in, may_stand_in}, Holding.longer_below}
+use Rattle.reporter.proofs.Linking.{link_among, unlinked_beneath}
+use Rattle.reporter.specs.{Aims.{Aim, aim_at, counts_ancestry, entry_led, is_of_line, keeps_line}, Links.{led_to, link_at}}
+use Rattle.reporter.specs.{Places.{AllHoldTogether, is_grafted_over}, Reported.ReportedEntry, Targets.{WholeReport, client_tree}}
+use Rattle.reporter.specs.{declared.ask.DriveAsk.DriveAsk, declared.graft.Graft.Graft}
 use Rattle.drive_sides.specs.Pairs.{HasNoGraft}
 use Rattle.drive_sides.proofs.Naming.{is_named}
 

@@ -1,13 +1,13 @@
 -- Where two directories differ by no other names, the others are left out.
-use Rattle.std.proofs.Common.{◌≡◌, ◌⊎◌, inl, inr, ⊎_elim, Bool, true, false, not, ◌||◌, List, [], ◌∷◌, ◌++◌, is_some, Result, Ok, Err, refl, sym, ap, ◌∙◌, subst}
-use Rattle.std.proofs.{lemmas.Bool.{false≢true, or_left, or_right}, lemmas.List.{append_assoc, Folds.list_any-append}}
+use Rattle.std.proofs.Common.{◌≡◌, ◌⊎◌, inl, inr, ⊎_elim, Bool, true, false, not, ◌||◌, List, [], ◌∷◌, ◌++◌, is_some, Result, Ok, Err, refl, sym, ap, ◌∙◌}
+use Rattle.std.proofs.{Common.subst, lemmas.Bool.{false≢true, or_left, or_right}, lemmas.List.append_assoc, lemmas.List.Folds.list_any-append}
 use Rattle.std.specs.Prelude.{if◌then◌else◌, IsSome, OnOk}
 use Rattle.svnpath.specs.{PathLaws.same_component_is, Paths.{Component, is_at_or_under, PathValue, same_component}}
 use Rattle.repo_api.specs.{Histories.history_of, Readings.{is_name_among, IsSameAt, names_at}, States.{RepoState, tree_at}}
 use Rattle.history.specs.{Lines.line_start, Logs.place_at}
-use Rattle.reporter.specs.Walks.{AreAlike, LeavesUnlike, WalkedTrees}
-use Rattle.reporter.proofs.Children.{children_all, children_are}
-use Rattle.drive_reports.specs.{Places.AllHoldTogether, Targets.{WholeReport, new_tree, old_tree}, declared.ask.DriveAsk.DriveAsk}
+use Rattle.drive_visits.specs.Walks.{AreAlike, LeavesUnlike, WalkedTrees}
+use Rattle.drive_visits.proofs.Children.{children_all, children_are}
+use Rattle.reporter.specs.{Places.AllHoldTogether, Targets.{WholeReport, new_tree, old_tree}, declared.ask.DriveAsk.DriveAsk}
 use Rattle.drive_sides.specs.{Lines.{KeepsLines, KeepsLinesBeside}, Names.{AreDistinct, children_of}, Pairs.{HasNoGraft, IsPairBeside}, Plans.drive_trees}
 use Rattle.drive_sides.specs.{Unlike.{AreUnlikeBy, HoldUnlike}, declared.pairs.EntryPair.EntryPair}
 use Rattle.drive_sides.proofs.{Naming.among_there, SameBeneath.alike_in_pair}

@@ -4,9 +4,9 @@ use Rattle.std.proofs.{lemmas.Bool.false≢true, lemmas.List.length-append}
 use Rattle.std.specs.{FinMap.{keys, get, contains_key-keys}, List.list_any, Prelude.{IsSome, is_some}}
 use Rattle.svnpath.specs.{PathLaws.same_path_is, Paths.{is_at_or_under, path_ties, PathValue, same_path}}
 use Rattle.repo_api.specs.States.{RepoState, tree_at, TreeMap}
-use Rattle.reporter.specs.Walks.{IsShorter}
-use Rattle.drive_reports.specs.{Aims.aim_at, Targets.{WholeReport, drive_scope, new_tree}, declared.graft.Graft.Graft}
-use Rattle.drive_reports.proofs.Aiming.{at_led, entry_stands, IsFront, IsLed}
+use Rattle.drive_visits.specs.Walks.{IsShorter}
+use Rattle.reporter.specs.{Aims.aim_at, Targets.{WholeReport, drive_scope, new_tree}, declared.graft.Graft.Graft}
+use Rattle.reporter.proofs.Aiming.{at_led, entry_stands, IsFront, IsLed}
 use Rattle.drive_sides.specs.Bounds.{front_bound, names_altogether, path_bound}
 
 -- a map has something at its keys alone

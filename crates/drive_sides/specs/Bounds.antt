@@ -2,7 +2,7 @@
 use Rattle.std.specs.{Prelude.{ℕ, ◌+◌, List, [], ◌∷◌, length, map}, FinMap.keys}
 use Rattle.svnpath.specs.Paths.{PathValue}
 use Rattle.repo_api.specs.States.{RepoState, tree_at}
-use Rattle.drive_reports.specs.{Targets.WholeReport, declared.graft.Graft.Graft}
+use Rattle.reporter.specs.{Targets.WholeReport, declared.graft.Graft.Graft}
 
 -- how many names all these paths have
 abbrev pub names_altogether : List PathValue → ℕ

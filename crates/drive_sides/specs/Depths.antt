@@ -2,9 +2,9 @@
 use Rattle.std.specs.{Prelude.{◌≡◌, ◌⊎◌, true, false, List, [], ◌∷◌, ◌++◌, length, drop, is_some, Some}, List.list_any}
 use Rattle.svnpath.specs.Paths.{Component, PathValue}
 use Rattle.repo_api.specs.{Kinds.kind_of, States.RepoState}
-use Rattle.drive_reports.specs.{Depths.{is_shallow, is_to_the_end}, Reported.ReportedEntry, Targets.{WholeReport, client_entries, depth_inherited, drive_limit, drive_scope}}
-use Rattle.drive_reports.specs.{declared.ask.DepthAsked.DepthAsked, declared.ask.DepthAsked.TheVariants.{AsReported, Given}}
-use Rattle.drive_reports.specs.declared.reported.ReportedPlace.{ReportedPlace}
+use Rattle.reporter.specs.{Depths.{is_shallow, is_to_the_end}, Reported.ReportedEntry}
+use Rattle.reporter.specs.{Targets.{WholeReport, client_entries, depth_inherited, drive_limit, drive_scope}, declared.ask.DepthAsked.DepthAsked}
+use Rattle.reporter.specs.{declared.ask.DepthAsked.TheVariants.{AsReported, Given}, declared.reported.ReportedPlace.ReportedPlace}
 use Rattle.drive_rules.specs.{Scopes.{depth_said, DepthLimit, own_or_inherited, top_limit}, declared.depth.Depth.Depth}
 use Rattle.drive_rules.specs.declared.depth.Depth.TheVariants.{Empty, Files, Immediates, Infinity}
 use Rattle.drive_sides.specs.{declared.reach.Reach.Reach, declared.reach.Reach.TheVariants.{NoChild, ChildHad, AnyChild}}

@@ -2,8 +2,8 @@
 use Rattle.std.specs.Prelude.{◌≡◌, true, Option, if◌then◌else◌}
 use Rattle.svnpath.specs.Paths.{is_at_or_under, PathValue}
 use Rattle.repo_api.specs.{Kinds.kind_of, States.RepoState, Trees.is_directory_there}
-use Rattle.reporter.specs.declared.known_path.KnownPath.{KnownPath}
-use Rattle.drive_reports.specs.{Aims.{Aim, aim_at, aim_of}, Places.IsPlacedAt, Targets.{WholeReport, client_tree}, declared.reported.ReportedPlace.ReportedPlace}
+use Rattle.drive_visits.specs.declared.known_path.KnownPath.{KnownPath}
+use Rattle.reporter.specs.{Aims.{Aim, aim_at, aim_of}, Places.IsPlacedAt, Targets.{WholeReport, client_tree}, declared.reported.ReportedPlace.ReportedPlace}
 use Rattle.drive_sides.specs.{declared.known.DriveKnown.DriveKnown, declared.leading.Holder.Holder}
 
 -- a path is at or under the target

@@ -4,7 +4,7 @@ use Rattle.svnpath.specs.Paths.{Component, PathValue}
 use Rattle.repo_api.specs.{Histories.history_of, Readings.IsSameAt, States.RepoState}
 use Rattle.traces.specs.declared.place.Place.{Place}
 use Rattle.history.specs.{Lines.{AreOneLineBeneath, AreOneLineBeside}, Logs.place_at}
-use Rattle.drive_reports.specs.{Aims.counts_ancestry, declared.ask.DriveAsk.DriveAsk, declared.reported.ReportedPlace.ReportedPlace}
+use Rattle.reporter.specs.{Aims.counts_ancestry, declared.ask.DriveAsk.DriveAsk, declared.reported.ReportedPlace.ReportedPlace}
 use Rattle.drive_sides.specs.Depths.{IsWhole}
 
 -- where ancestry counts, what is at two places is of one line, and so is what is beneath both

@@ -2,7 +2,7 @@
 use Rattle.std.specs.Prelude.{◌≡◌, ◌⊎◌, ◌||◌, true, false, List, [], ◌∷◌, ◌++◌, is_some, map}
 use Rattle.svnpath.specs.Paths.{Component, is_at_or_under, PathValue}
 use Rattle.repo_api.specs.{Readings.{is_name_among, names_among}, States.RepoState}
-use Rattle.drive_reports.specs.{Targets.{WholeReport, client_tree, new_tree, target_entries}, declared.graft.Graft.Graft}
+use Rattle.reporter.specs.{Targets.{WholeReport, client_tree, new_tree, target_entries}, declared.graft.Graft.Graft}
 
 -- these names were put among others
 abbrev pub ArePut : List Component → List Component → List Component → Type 0

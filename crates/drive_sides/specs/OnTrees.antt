@@ -1,6 +1,6 @@
 -- What definitions of drives say of the two trees that the code walks.
 use Rattle.repo_api.specs.{States.RepoState, declared.repository.Repository.Ghosts}
-use Rattle.drive_reports.specs.Targets.{WholeReport}
+use Rattle.reporter.specs.Targets.{WholeReport}
 use Rattle.drive_sides.specs.{Plans.whole, declared.two_trees.TwoTrees.TwoTrees}
 
 -- a definition of drives on two trees: over what the repository contains and the whole report

@@ -4,8 +4,8 @@ use Rattle.svnpath.specs.Paths.{Component, is_at_or_under, PathValue}
 use Rattle.repo_api.specs.{Readings.IsSameAt, States.{RepoState, trees_in}}
 use Rattle.history.specs.Logs.{place_at}
 use Rattle.drive_rules.specs.Scopes.{below}
-use Rattle.drive_reports.specs.{Aims.aim_at, Reported.ReportedEntry, Targets.{WholeReport, client_tree, drive_scope, due_in, new_tree, old_tree}}
-use Rattle.drive_reports.specs.{declared.ask.DriveAsk.DriveAsk, declared.graft.Graft.Graft}
+use Rattle.reporter.specs.{Aims.aim_at, Reported.ReportedEntry, Targets.{WholeReport, client_tree, drive_scope, due_in, new_tree, old_tree}}
+use Rattle.reporter.specs.{declared.ask.DriveAsk.DriveAsk, declared.graft.Graft.Graft}
 use Rattle.drive_sides.specs.{Lines.KeepsLines, declared.pairs.EntryPair.EntryPair}
 
 -- the drive is of everything at and under its target

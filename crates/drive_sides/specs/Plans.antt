@@ -3,10 +3,9 @@ use Rattle.std.specs.Prelude.{◌≡◌, true, List, [], ◌∷◌, Some, if◌t
 use Rattle.svnpath.specs.Paths.{PathValue, same_path}
 use Rattle.repo_api.specs.States.{RepoState}
 use Rattle.drive_rules.specs.Scopes.{under}
-use Rattle.reporter.specs.{Nesting.walk, Visits.IsRightPlan, Walks.WalkedTrees, Visits.Visit, Visits.Visit.Open}
-use Rattle.drive_reports.specs.{Refusing.OpenState, Targets.{WholeReport, due_in, is_apart, old_tree, new_tree}, declared.ask.DriveAsk.DriveAsk}
-use Rattle.drive_reports.specs.declared.report.ReportRoot.{ReportRoot}
-use Rattle.drive_wire.specs.Sent.{counts_of}
+use Rattle.drive_visits.specs.{Nesting.walk, Visits.{IsRightPlan, Visit}, Walks.WalkedTrees, Visits.Visit.Open}
+use Rattle.reporter.specs.{Refusing.OpenState, Targets.{WholeReport, due_in, is_apart, old_tree, new_tree}, declared.ask.DriveAsk.DriveAsk}
+use Rattle.reporter.specs.{declared.report.ReportRoot.ReportRoot, Sent.counts_of}
 use Rattle.drive_news.specs.News.{own_steps_of}
 
 -- a report that has come to its end

@@ -2,7 +2,7 @@
 use Rattle.std.proofs.{Common.{◌≡◌, true, List, Option, Some, None}, Math.Bool.Bool-set}
 use Rattle.std.specs.Prelude.{IsTrue, IsSomeAnd}
 use Rattle.repo_api.specs.{States.{Revision, trees_in}, Trees.is_directory, declared.entry.Entry.Entry}
-use Rattle.drive_reports.specs.Places.{AllHoldTogether}
+use Rattle.reporter.specs.Places.{AllHoldTogether}
 
 true_prop : (e : Entry) → IsProp (IsTrue (is_directory e))
 true_prop e = Bool-set (is_directory e) true

@@ -3,8 +3,8 @@ use Rattle.std.specs.Prelude.{◌≡◌, ◌⊎◌, true, All, List, [], ◌∷�
 use Rattle.svnpath.specs.Paths.{Component, PathValue}
 use Rattle.repo_api.specs.{Readings.{is_name_among, IsSameAt}, States.RepoState}
 use Rattle.history.specs.Logs.{place_at}
-use Rattle.reporter.specs.Walks.{AreUnlikeListed, IsChild, LeavesUnlike, WalkedTrees}
-use Rattle.drive_reports.specs.declared.ask.DriveAsk.{DriveAsk}
+use Rattle.drive_visits.specs.Walks.{AreUnlikeListed, IsChild, LeavesUnlike, WalkedTrees}
+use Rattle.reporter.specs.declared.ask.DriveAsk.{DriveAsk}
 use Rattle.drive_sides.specs.{Lines.KeepsLines, declared.pairs.EntryPair.EntryPair}
 
 -- By no other names are the two directories of a pair unlike: at every other name, and beneath it,

@@ -6,9 +6,9 @@ ghost use Rattle.drive_sides.specs.{Depths.{IsAlone, IsWhole}, Lines.IsAllKept};
 use crate::lines::keeps_lines;
 use crate::two_trees::TwoTrees;
 use drive_news::Place;
-use drive_reports::ReportedPlace;
 use drive_rules::Depth;
 use repo_api::Repository;
+use reporter::ReportedPlace;
 use std::alloc::{AllocError, Global};
 use svnpath::Path;
 

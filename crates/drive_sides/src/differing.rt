@@ -2,7 +2,7 @@
 ghost use Rattle.std.specs.Prelude.{◌≡◌, true, IfOk, OnOk};
 ghost use Rattle.svnpath.specs.Paths.{Component};
 ghost use Rattle.repo_api.specs.Readings.{is_name_among};
-ghost use Rattle.reporter.specs.Knowing.{IsKnown};
+ghost use Rattle.drive_visits.specs.Knowing.{IsKnown};
 ghost use Rattle.drive_sides.specs.{Known.IsKnownOf, OnTrees.on_trees, Plans.drive_trees, Unlike.{AreUnlikeBy, HoldUnlike}};
 
 use crate::known::DrivePlace;
@@ -11,8 +11,8 @@ use crate::names::{children_of, put_all, put_names_beneath};
 use crate::pairs::EntryPair;
 use crate::two_trees::TwoTrees;
 use byte_string::ByteString;
-use drive_reports::DriveAsk;
 use repo_api::Repository;
+use reporter::DriveAsk;
 use std::alloc::{AllocError, Global};
 use std::collections::BTreeSet;
 use svnpath::Path;

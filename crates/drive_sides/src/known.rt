@@ -1,13 +1,13 @@
 //! What is known of the paths of a drive.
 ghost use Rattle.std.specs.Prelude.{◌≡◌, IfOk};
-ghost use Rattle.reporter.specs.{Knowing.{IsKnown, IsKnownAt}, Walks.IsChild};
+ghost use Rattle.drive_visits.specs.{Knowing.{IsKnown, IsKnownAt}, Walks.IsChild};
 ghost use Rattle.drive_sides.specs.{Known.{holder_at, IsKnownOf}, OnTrees.on_trees};
 
 use crate::leading::Holder;
 use crate::two_trees::TwoTrees;
-use drive_reports::ReportedPlace;
+use drive_visits::{KnownPath, KnownVisit, Visitor};
 use repo_api::{NodeKind, Repository};
-use reporter::{KnownPath, KnownVisit, Visitor};
+use reporter::ReportedPlace;
 use std::alloc::{AllocError, Global};
 use svnpath::Path;
 

@@ -1,14 +1,14 @@
 //! Where a path of a drive is led, by what its directory says.
 ghost use Rattle.std.specs.Prelude.{◌≡◌, ◌&&◌, None, not, Option, is_some, option_copied, IfOk, if◌then◌else◌};
 ghost use Rattle.repo_api.specs.{Kinds.kind_of, declared.entry.Entry.Entry};
-ghost use Rattle.drive_reports.specs.{Aims.{are_of_one_kind, entry_led}, Links.led_to, Targets.client_entries};
+ghost use Rattle.reporter.specs.{Aims.{are_of_one_kind, entry_led}, Links.led_to, Targets.client_entries};
 ghost use Rattle.drive_sides.specs.{Known.{IsHadAt, IsLedFrom}, OnTrees.on_trees};
 
 use crate::known::{DriveKnown, DrivePlace};
 use crate::two_trees::TwoTrees;
-use drive_reports::{Graft, ReportedPlace, link_at};
+use drive_visits::KnownPath;
 use repo_api::{NodeKind, Repository};
-use reporter::KnownPath;
+use reporter::{Graft, ReportedPlace, link_at};
 use small_rules::gives_way;
 use std::alloc::{AllocError, Global};
 use std::mem::drop;

@@ -1,16 +1,16 @@
 //! Whether what a client has may stay by lines of history.
 ghost use Rattle.std.specs.Prelude.{◌≡◌, true, option_copied, IfOk};
 ghost use Rattle.history.specs.Logs.{place_at};
-ghost use Rattle.drive_reports.specs.{Aims.{counts_ancestry, is_of_line, keeps_line, may_change_line}, Targets.client_tree};
+ghost use Rattle.reporter.specs.{Aims.{counts_ancestry, is_of_line, keeps_line, may_change_line}, Targets.client_tree};
 ghost use Rattle.drive_sides.specs.{Known.IsHadAt, Lines.{KeepsLines, KeepsLinesBeside}, OnTrees.on_trees};
 
 use crate::pairs::EntryPair;
 use crate::two_trees::TwoTrees;
 use byte_string::ByteString;
 use drive_news::Place;
-use drive_reports::{DriveAsk, Graft, ReportedPlace};
 use history::{are_one_line_beneath, are_one_line_beside, is_one_line};
 use repo_api::Repository;
+use reporter::{DriveAsk, Graft, ReportedPlace};
 use std::alloc::{AllocError, Global};
 use std::collections::BTreeSet;
 use svnpath::Path;

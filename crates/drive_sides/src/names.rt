@@ -2,14 +2,13 @@
 ghost use Rattle.std.specs.{Prelude.{◌≡◌, ◌∷◌, [], true, false, is_some, map, slice_get, IfOk, OnOk, option_copied}, Map.Iter.deref};
 ghost use Rattle.svnpath.specs.Paths.{Component};
 ghost use Rattle.repo_api.specs.{Readings.{is_name_among, name_in, names_at, rest_beneath}, States.trees_in};
-ghost use Rattle.drive_reports.specs.Places.{in_place};
-ghost use Rattle.drive_sides.specs.Pairs.{HasNoGraft};
-ghost use Rattle.drive_sides.specs.Names.{children_of, graft_names, AreDistinct, ArePut};
+ghost use Rattle.reporter.specs.Places.{in_place};
+ghost use Rattle.drive_sides.specs.{Pairs.HasNoGraft, Names.{children_of, graft_names, AreDistinct, ArePut}};
 
 use crate::alike::is_alone;
 use byte_string::ByteString;
-use drive_reports::{Graft, ReportedPlace};
 use repo_api::Repository;
+use reporter::{Graft, ReportedPlace};
 use std::alloc::{AllocError, Global};
 use std::collections::BTreeSet;
 use svnpath::Path;

@@ -1,7 +1,7 @@
 //! The pairs of entries of a drive, of which everything is had and asked for.
 ghost use Rattle.std.specs.Prelude.{◌≡◌, true, None, IfOk, IfSome};
 ghost use Rattle.repo_api.specs.Readings.{IsSameAt};
-ghost use Rattle.reporter.specs.Knowing.{IsKnown};
+ghost use Rattle.drive_visits.specs.Knowing.{IsKnown};
 ghost use Rattle.drive_sides.specs.{Depths.IsWhole, Known.IsKnownOf, OnTrees.on_trees, Pairs.{AreOnePair, HaveSameLines, IsPairAt, IsPairBeside}};
 
 use crate::alike::is_whole;
@@ -9,8 +9,8 @@ use crate::known::DrivePlace;
 use crate::lines::keeps_lines;
 use crate::two_trees::TwoTrees;
 use drive_news::Place;
-use drive_reports::{DriveAsk, ReportedPlace};
 use repo_api::Repository;
+use reporter::{DriveAsk, ReportedPlace};
 use std::alloc::{AllocError, Global};
 use svnpath::Path;
 

@@ -1,14 +1,14 @@
 //! The visits of a drive.
 ghost use Rattle.std.specs.Prelude.{◌≡◌, Ok, IfOk, List};
 ghost use Rattle.repo_api.specs.Soundness.{AreTrees};
-ghost use Rattle.reporter.specs.{Knowing.HoldsKnown, Visiting.MayVisit, Visits.Visit};
-ghost use Rattle.drive_reports.specs.Refusing.{finish_root};
+ghost use Rattle.drive_visits.specs.{Knowing.HoldsKnown, Visiting.MayVisit, Visits.Visit};
+ghost use Rattle.reporter.specs.Refusing.{finish_root};
 ghost use Rattle.drive_sides.specs.{Known.IsKnownOf, OnTrees.on_trees, Plans.{IsPlan, drive_trees}};
 
 use crate::known::DriveVisitor;
 use crate::two_trees::TwoTrees;
+use drive_visits::Visitor;
 use repo_api::Repository;
-use reporter::Visitor;
 use std::alloc::{AllocError, Global};
 
 /// Gives the visits of the drive that a report has come to, made as they are asked for.

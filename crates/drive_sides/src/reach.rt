@@ -2,8 +2,8 @@
 ghost use Rattle.std.specs.Prelude.{◌≡◌};
 ghost use Rattle.drive_sides.specs.Depths.{reach_of};
 
-use drive_reports::DepthAsked;
 use drive_rules::Depth;
+use reporter::DepthAsked;
 
 /// Which children of a directory a drive can be of.
 #[derive(Clone, Copy)]

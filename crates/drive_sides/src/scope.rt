@@ -3,17 +3,18 @@ ghost use Rattle.std.specs.Prelude.{◌≡◌, true, Option, IfOk};
 ghost use Rattle.svnpath.specs.Paths.{is_at_or_under};
 ghost use Rattle.repo_api.specs.{Kinds.kind_of, declared.entry.Entry.Entry};
 ghost use Rattle.drive_rules.specs.Scopes.{depth_added, depth_said, includes, includes_child, keeps_reported, own_or_inherited, top_limit};
-ghost use Rattle.drive_reports.specs.{Depths.asks_for_all, Targets.{client_tree, counted_entries, depth_inherited, depth_kept, drive_limit, drive_scope, first_depth, is_hidden, reported_depth, target_entries}};
-ghost use Rattle.reporter.specs.{Knowing.IsKnown, Walks.IsChild};
+ghost use Rattle.reporter.specs.{Depths.asks_for_all, Targets.{client_tree, counted_entries, depth_inherited, depth_kept, drive_limit, drive_scope}};
+ghost use Rattle.reporter.specs.Targets.{first_depth, is_hidden, reported_depth, target_entries};
+ghost use Rattle.drive_visits.specs.{Knowing.IsKnown, Walks.IsChild};
 ghost use Rattle.drive_sides.specs.{Known.IsKnownOf, OnTrees.on_trees, Pairs.IsOfAll, Plans.whole, Depths.{depth_at, FollowsWholeReport, Reaches}};
 
 use crate::known::DrivePlace;
 use crate::leading::kind_if;
 use crate::reach::{Reach, reach_of};
 use crate::two_trees::TwoTrees;
-use drive_reports::{DepthAsked, DriveAsk, depth_below, is_excluded_at, is_to_the_end};
 use drive_rules::Depth;
 use repo_api::{NodeKind, Repository};
+use reporter::{DepthAsked, DriveAsk, depth_below, is_excluded_at, is_to_the_end};
 use std::alloc::{AllocError, Global};
 use svnpath::Path;
 

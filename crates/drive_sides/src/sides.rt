@@ -8,8 +8,8 @@ use crate::two_trees::TwoTrees;
 use crate::views::had_at;
 use byte_string::ByteString;
 use drive_news::{Place, entries_differ};
+use drive_visits::{Kinds, Sides};
 use repo_api::{NodeKind, Repository};
-use reporter::{Kinds, Sides};
 use std::alloc::{AllocError, Global};
 use std::collections::BTreeSet;
 use svnpath::Path;
@@ -18,11 +18,10 @@ impl<'a, R: Repository> TwoTrees<'a, R> {
     ghost use Rattle.std.specs.Prelude.{◌≡◌, ◌∷◌, ◌++◌, [], false, true, is_some, IfOk, OnOk};
     ghost use Rattle.svnpath.specs.Paths.{Component};
     ghost use Rattle.repo_api.specs.Readings.{is_name_among};
-    ghost use Rattle.drive_reports.specs.{Places.is_grafted_over, Targets.{client_tree, drive_scope, new_tree, old_tree}};
+    ghost use Rattle.reporter.specs.{Places.is_grafted_over, Targets.{client_tree, drive_scope, new_tree, old_tree}, Sent.counts_changes};
     ghost use Rattle.drive_sides.specs.{Known.IsKnownOf, Names.{NameNew, NameTarget}, OnTrees.on_trees, Plans.drive_trees};
-    ghost use Rattle.reporter.specs.{Knowing.IsKnown, Walks.IsListed};
+    ghost use Rattle.drive_visits.specs.{Knowing.IsKnown, Walks.IsListed};
     ghost use Rattle.drive_news.specs.Places.{Compares};
-    ghost use Rattle.drive_wire.specs.Sent.{counts_changes};
 
     /// Finds the names of what is to exist straight beneath a path, as far as the client does not have it.
     fn target_names(

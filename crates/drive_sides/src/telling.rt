@@ -1,8 +1,9 @@
 //! What the entries of a drive are told, and what else is to be known of them.
 ghost use Rattle.std.specs.Prelude.{◌≡◌, true, IfOk, option_and_then, option_copied, option_map};
 ghost use Rattle.repo_api.specs.Trees.{text_of};
-ghost use Rattle.reporter.specs.Knowing.{IsKnown};
-ghost use Rattle.drive_reports.specs.{Reported.ReportedEntry, Targets.{client_tree, drive_scope, due_in, is_stale, is_to_be_opened, is_written_anew, keeps_report, new_tree, old_tree, stale_in}};
+ghost use Rattle.drive_visits.specs.Knowing.{IsKnown};
+ghost use Rattle.reporter.specs.{Reported.ReportedEntry, Targets.{client_tree, drive_scope, due_in, is_stale, is_to_be_opened, is_written_anew, keeps_report}};
+ghost use Rattle.reporter.specs.Targets.{new_tree, old_tree, stale_in};
 ghost use Rattle.drive_news.specs.{News.{news_at, news_of}, Places.entry_had};
 ghost use Rattle.drive_sides.specs.{Depths.IsOfPlace, Known.IsKnownOf, OnTrees.on_trees};
 
@@ -11,8 +12,8 @@ use crate::scope::asks_for_all;
 use crate::two_trees::TwoTrees;
 use crate::views::had_at;
 use drive_news::{Had, News, Place, Sight, news_of};
-use drive_reports::{DriveAsk, ReportedPlace, is_to_the_end};
 use repo_api::{FileText, Repository};
+use reporter::{DriveAsk, ReportedPlace, is_to_the_end};
 use std::alloc::{AllocError, Global};
 
 /// Says whether a client writes a directory down anew when it is opened, by what it has there.

@@ -1,11 +1,11 @@
 //! The two trees of a drive.
 ghost use Rattle.std.specs.Prelude.{◌≡◌};
 ghost use Rattle.repo_api.specs.Soundness.{AreTrees};
-ghost use Rattle.drive_reports.specs.Places.{AllHoldTogether};
+ghost use Rattle.reporter.specs.Places.{AllHoldTogether};
 ghost use Rattle.drive_sides.specs.Together.{AllHoldTogether-prop};
 
-use drive_reports::{Grafts, OpenReport, ReportRoot};
 use repo_api::Repository;
+use reporter::{Grafts, OpenReport, ReportRoot};
 
 /// The two trees of a drive, over a repository: what the client has by its report, and what it is
 /// to have. What stands in a revision of the repository stands in a directory of it.

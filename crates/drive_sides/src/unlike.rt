@@ -1,6 +1,6 @@
 //! What of a directory is not surely alike on both sides.
 ghost use Rattle.std.specs.Prelude.{◌≡◌, true, All, IfNone, IfOk, IfSome};
-ghost use Rattle.reporter.specs.{Knowing.{AreKnown, IsKnown, IsKnownAt, paths_of}, Walks.{AreAlike, IsChild, LeavesUnlike}};
+ghost use Rattle.drive_visits.specs.{Knowing.{AreKnown, IsKnown, IsKnownAt, paths_of}, Walks.{AreAlike, IsChild, LeavesUnlike}};
 ghost use Rattle.drive_sides.specs.{Known.IsKnownOf, OnTrees.on_trees, Pairs.IsPairAt, Plans.drive_trees};
 
 use crate::known::DrivePlace;

@@ -1,15 +1,15 @@
 //! What stands on either side, whether the drive is of it or not.
 ghost use Rattle.std.specs.Prelude.{◌≡◌, IfOk};
 ghost use Rattle.repo_api.specs.Kinds.{kind_of};
-ghost use Rattle.drive_reports.specs.{Targets.{client_tree, client_entries, target_entries}, Places.IsPlacedAt};
-ghost use Rattle.reporter.specs.Knowing.{IsKnown};
+ghost use Rattle.reporter.specs.{Targets.{client_tree, client_entries, target_entries}, Places.IsPlacedAt};
+ghost use Rattle.drive_visits.specs.Knowing.{IsKnown};
 ghost use Rattle.drive_sides.specs.{Known.IsKnownOf, OnTrees.on_trees};
 
 use crate::known::DrivePlace;
 use crate::two_trees::TwoTrees;
 use drive_news::{Had, Place};
-use drive_reports::{ReportedPlace, reported_at};
 use repo_api::{NodeKind, Repository};
+use reporter::{ReportedPlace, reported_at};
 use std::alloc::{AllocError, Global};
 use svnpath::Path;
 

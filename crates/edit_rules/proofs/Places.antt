@@ -1,7 +1,7 @@
 -- What is open has its place, and is closed place by place.
-use Rattle.std.proofs.Common.{◌≡◌, ℕ, Bool, true, false, cond, not, ◌&&◌, ◌||◌, is_some, List, [], ◌∷◌, ◌++◌, drop, length, Option, Some, None, refl, sym, ap, subst, ◌∙◌}
-use Rattle.std.proofs.Common.{append-nil, append_assoc}
-use Rattle.std.proofs.{lemmas.Bool.false≢true, lemmas.Option.none-some, lemmas.List.Folds.list_any-append, lemmas.Map.Keys.{sorted_head, sorted_tail}}
+use Rattle.std.proofs.Common.{◌≡◌, ℕ, Bool, true, false, cond, not, ◌&&◌, ◌||◌, is_some, List, [], ◌∷◌, ◌++◌, drop, length, Option, Some, None, refl, sym, ap}
+use Rattle.std.proofs.{Common.{subst, ◌∙◌, append-nil, append_assoc}, lemmas.Bool.false≢true, lemmas.Option.none-some, lemmas.List.Folds.list_any-append}
+use Rattle.std.proofs.lemmas.Map.Keys.{sorted_head, sorted_tail}
 use Rattle.std.specs.{BTreeMap.is_at, Cmp.Lexicographic.{slice_cmp, texts_ties}, List.{AllByRecursion, filter}, List.Sorted.IsStrictlySortedBy}
 use Rattle.std.specs.{Map.{keys_of, lookup, remove_entry}, Ordering.{is_eq, nat_cmp}, Prelude.if◌then◌else◌, declared.cmp.Ordering.TheVariants.Less}
 use Rattle.svnpath.specs.PathLaws.{same_component_is, same_component_refl, same_path-append, same_path_is, under_append, under_is}

@@ -21,9 +21,9 @@ use Rattle.wire_edits.specs.declared.editing.EditorCommand.TheVariants.{TextDelt
 use Rattle.wire_edits.specs.{declared.editing.AddedEntry.AddedEntry, declared.editing.OpenedEntry.OpenedEntry, declared.editing.DeletedEntry.DeletedEntry}
 use Rattle.wire_edits.specs.declared.editing.PropertyChange.{PropertyChange}
 use Rattle.edit_rules.specs.Tokens.{Tokens, with_token, without_token, with_change, opened_under, path_of, copies_under, closed_beneath}
-use Rattle.edit_rules.specs.{Edits.{EditState, standing, created, open_in}, Refusing.{unless, directory_refusal, add_refusal, age_refusal}}
-use Rattle.edit_rules.specs.Refusing.{file_refusal, opening_refusal, place_refusal, source_of, room_refusal, source_refusal, adding_refusal, open_root_refusal}
-use Rattle.edit_rules.specs.Refusing.{before_root, delete_entry_refusal, add_entry_refusal, open_directory_refusal, open_file_refusal, begin_delta_refusal, edit_refusal}
+use Rattle.edit_rules.specs.{Edits.{EditState, standing, created, open_in}, Refusing.{unless, directory_refusal, add_refusal, age_refusal, file_refusal}}
+use Rattle.edit_rules.specs.Refusing.{opening_refusal, place_refusal, source_of, room_refusal, source_refusal, adding_refusal, open_root_refusal, before_root}
+use Rattle.edit_rules.specs.Refusing.{delete_entry_refusal, add_entry_refusal, open_directory_refusal, open_file_refusal, begin_delta_refusal, edit_refusal}
 use Rattle.edit_rules.specs.{Refusing.command_refusal, Editor.{OpensRoot, Edits, Named, Opens, opened_directory, copy_edit, added_edit, added_opened}}
 use Rattle.edit_rules.specs.Editor.{tokens_added, Adds, ChangesProperty, property_edit, unread, BeginsDelta, FeedsDelta, EndsDelta, Closes, Applies, RestsIn}
 use Rattle.edit_rules.specs.{Editor.RestsOn, Soundness.{StandsIn, IsSoundIn, IsSoundEdit, IsRightIn}, declared.opened.OpenedDirectory.OpenedDirectory}

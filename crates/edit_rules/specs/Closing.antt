@@ -1,6 +1,5 @@
 -- What is open is closed, place by place.
-use Rattle.std.specs.Prelude.{◌≡◌, ℕ, Bool, true, List, Option, Some}
-use Rattle.std.specs.List.{filter}
+use Rattle.std.specs.{Prelude.{◌≡◌, ℕ, Bool, true, List, Option, Some}, List.filter}
 use Rattle.svnpath.specs.Paths.{PathValue}
 use Rattle.edit_rules.specs.{Tokens.{Tokens, opened_under, place_of, stays_open}, declared.opened.Opened.Opened}
 

@@ -18,9 +18,9 @@ use Rattle.wire_edits.specs.declared.editing.EditorCommand.TheVariants.{ChangeDi
 use Rattle.wire_edits.specs.declared.editing.EditorCommand.TheVariants.{TextDeltaEnd, CloseDirectory, CloseFile, CloseEdit, AbortEdit}
 use Rattle.wire_edits.specs.{declared.editing.AddedEntry.AddedEntry, declared.editing.OpenedEntry.OpenedEntry, declared.editing.DeletedEntry.DeletedEntry}
 use Rattle.wire_edits.specs.declared.editing.AbsentEntry.{AbsentEntry}
-use Rattle.edit_rules.specs.{Tokens.{directory_of, copies_under, is_within, is_placed, may_open, opened_under}, Edits.EditState}
-use Rattle.edit_rules.specs.Edits.{standing, created, base_in, file_text, open_in}
-use Rattle.edit_rules.specs.{declared.opened.Opened.Opened, declared.opened.Opened.TheVariants.{Directory, File}, declared.opened.DeltaState.DeltaState}
+use Rattle.edit_rules.specs.Tokens.{directory_of, copies_under, is_within, is_placed, may_open, opened_under}
+use Rattle.edit_rules.specs.{Edits.{EditState, standing, created, base_in, file_text, open_in}, declared.opened.Opened.Opened}
+use Rattle.edit_rules.specs.{declared.opened.Opened.TheVariants.{Directory, File}, declared.opened.DeltaState.DeltaState}
 use Rattle.edit_rules.specs.declared.opened.DeltaState.TheVariants as deltas
 
 -- the first refusal, if there is one

@@ -3,7 +3,7 @@ ghost use Rattle.std.specs.Prelude.{◌≡◌, Some, OnOk, IfErr, option_copied}
 ghost use Rattle.svnpath.specs.Paths.{PathValue};
 ghost use Rattle.svndiff0.specs.Applying.{Applying, fed};
 ghost use Rattle.edit_rules.specs.Tokens.{opened_under, directory_of, copies_under, with_change, closed_beneath, others_closed_beneath, has_unfinished};
-ghost use Rattle.edit_rules.specs.{Refusing.chunk_refusal, Judging.Judges, Texts.ReadsBytes, Tokens.{HavePlaces, path_of, Places}};
+ghost use Rattle.edit_rules.specs.{Tokens.{HavePlaces, path_of, Places}, Refusing.chunk_refusal, Judging.Judges, Texts.ReadsBytes};
 ghost use Rattle.refusals.specs.Faults.{IfNoMemory};
 
 use crate::closing::close_under;

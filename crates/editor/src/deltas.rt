@@ -10,9 +10,8 @@ use byte_string::ByteString;
 use edit_rules::{
     DeltaState, Opened, edits_are_right, feed_under, judge_checksum, set_delta, text_edit_under,
 };
-use file_texts::Texts;
 use refusals::{NotDone, Refusal};
-use repo_api::{EditOp, FileText, Repository};
+use repo_api::{EditOp, FileText, Repository, Texts};
 use std::alloc::{AllocError, Global};
 use std::sync::Arc;
 use svndiff0::Applier;

@@ -1,16 +1,16 @@
 -- Segments that are cut to what lies between two revisions.
-use Rattle.std.proofs.Common.{◌≡◌, ◌<◌, ◌≤◌, ◌-◌, ◌+◌, ℕ, zero, suc, Bool, true, false, List, [], ◌∷◌, ◌++◌, Option, Some, None, arith, refl, sym, ap, ◌∙◌, max, min, length, drop}
-use Rattle.std.proofs.{lemmas.Bool.false≢true, lemmas.List.Elements.{All-head, All-tail, All-weaker}}
+use Rattle.std.proofs.Common.{◌≡◌, ◌<◌, ◌≤◌, ◌-◌, ◌+◌, ℕ, zero, suc, Bool, true, false, List, [], ◌∷◌, ◌++◌, Option, Some, None, arith, refl, sym, ap, ◌∙◌, max}
+use Rattle.std.proofs.{Common.{min, length, drop}, lemmas.Bool.false≢true, lemmas.List.Elements.{All-head, All-tail, All-weaker}}
 use Rattle.std.specs.{List.{All, cons_option}, Prelude.{if◌then◌else◌, is_some, nat_le, nat_lt}}
 use borrow.Author.Tests.{lt-leb, lt-ltb, ltb-true}
 use Rattle.svnpath.specs.Paths.{PathValue}
 use Rattle.repo_api.specs.{Histories.{Changed, History}, declared.change.Source.Source}
-use Rattle.traces.specs.{Traces.{deciding_change, is_copied, is_copy_by, is_from, IsBelow, next_place, place_by, source_place, trace, trace_below}}
+use Rattle.traces.specs.Traces.{deciding_change, is_copied, is_copy_by, is_from, IsBelow, next_place, place_by, source_place, trace, trace_below}
 use Rattle.traces.specs.declared.place.Place.{Place}
 use Rattle.history.specs.Logs.{place_at}
 use Rattle.history.proofs.{Orders.below, Passing.trace_undecided, Steps.trace_is}
-use Rattle.file_histories.specs.Segments.{cut, cut_to, gap, gap_before, gap_between, is_beginning, left_from, newest, part, segments, segments_from, segments_of, stretch}
-use Rattle.file_histories.specs.declared.segment.Segment.{Segment}
+use Rattle.file_histories.specs.Segments.{cut, cut_to, gap, gap_before, gap_between, is_beginning, left_from, newest, part, segments, segments_from}
+use Rattle.file_histories.specs.{Segments.{segments_of, stretch}, declared.segment.Segment.Segment}
 use Rattle.file_histories.proofs.Stretches.{goes_on, no_gap}
 
 -- nothing of a segment that ends below the lowest revision is left

@@ -1,13 +1,14 @@
 -- Segments leave out no revision, have none twice, and say the path of each.
-use Rattle.std.proofs.Common.{◌≡◌, ◌<◌, ◌≤◌, ◌-◌, ◌⊎◌, inl, inr, ℕ, zero, suc, Bool, true, false, List, [], ◌∷◌, ◌++◌, Option, Some, None, arith, refl, sym, ap, ◌∙◌, subst, length, drop, max, min}
+use Rattle.std.proofs.Common.{◌≡◌, ◌<◌, ◌≤◌, ◌-◌, ◌⊎◌, inl, inr, ℕ, zero, suc, Bool, true, false, List, [], ◌∷◌, ◌++◌, Option, Some, None, arith, refl, sym, ap}
+use Rattle.std.proofs.Common.{◌∙◌, subst, length, drop, max, min}
 use Rattle.std.specs.{List.cons_option, Prelude.{if◌then◌else◌, nat_le, nat_lt, ◌&&◌}}
 use borrow.Author.Tests.{leb-true, leb-false, le-leb, lt-leb, ltb-true, ltb-false}
 use Rattle.svnpath.specs.Paths.{PathValue}
 use Rattle.repo_api.specs.{Histories.{Changed, History}, declared.change.Source.Source}
-use Rattle.traces.specs.{Traces.{deciding_change, is_copied, is_copy_by, is_from, place_by, source_place, trace, trace_below}}
-use Rattle.traces.specs.declared.place.Place.{Place}
+use Rattle.traces.specs.{Traces.{deciding_change, is_copied, is_copy_by, is_from, place_by, source_place, trace, trace_below}, declared.place.Place.Place}
 use Rattle.history.specs.{Lines.{last_place, line_start}, Locations.location_back, Logs.place_at}
-use Rattle.history.proofs.{Ends.{line_goes_on, starts_here_or_below}, Passing.trace_undecided, Steps.{goes_on_to, is_at, is_past, trace_above, trace_is, trace_passes}}
+use Rattle.history.proofs.{Ends.{line_goes_on, starts_here_or_below}, Passing.trace_undecided}
+use Rattle.history.proofs.Steps.{goes_on_to, is_at, is_past, trace_above, trace_is, trace_passes}
 use Rattle.file_histories.specs.{Laws.{AreJoined, AreSegmentsOf, IsCut, told_of}, Segments.{cut, gap, gap_between, part, segments, segments_of, stretch}}
 use Rattle.file_histories.specs.declared.segment.Segment.{Segment}
 use Rattle.file_histories.proofs.Stretches.{begins_copied, begins_made, goes_on}

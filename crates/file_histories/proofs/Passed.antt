@@ -1,6 +1,6 @@
 -- Places at which no revision is listed are passed over.
 use Rattle.std.proofs.Common.{◌≡◌, ◌≤◌, ℕ, zero, suc, Bool, true, false, List, [], ◌∷◌, Option, Some, arith, refl, sym, ap, ◌∙◌}
-use Rattle.std.proofs.lemmas.{List.Elements.{All-weaker, All-contains_itself}, List.Folds.list_any_none}
+use Rattle.std.proofs.{lemmas.List.Elements.{All-weaker, All-contains_itself}, lemmas.List.Folds.list_any_none}
 use Rattle.std.specs.{List.{All, Contains}, Prelude.{filter, if◌then◌else◌, ◌==◌, ◌&&◌, ◌||◌}}
 use borrow.Author.Tests.{eqb-true, eqb-false, le-leb}
 use Rattle.svnpath.specs.Paths.{Component, is_at_or_under, PathValue}

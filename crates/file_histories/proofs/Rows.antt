@@ -1,10 +1,9 @@
 -- Segments and deletions, worked by hand.
-use Rattle.std.specs.Prelude.{get_or}
+use Rattle.std.specs.{Prelude.get_or, List.find}
 use Rattle.std.proofs.Common.{◌≡◌, false, List, ℕ, [], ◌∷◌, Option, Some, None, codes, refl}
 use Rattle.svnpath.specs.Paths.{PathValue}
 use Rattle.repo_api.specs.{Histories.{Changed, History}, declared.change.Action.Action, declared.change.Change.Change, declared.change.Source.Source}
 use Rattle.repo_api.specs.declared.change.Action.TheVariants.{Add, Delete, Replace, Modify}
-use Rattle.std.specs.List.{find}
 use Rattle.file_histories.specs.{Deleted.{is_taken_away, revisions_after}, Segments.{cut, gap, segments, stretch}}
 
 abbrev trunk : PathValue

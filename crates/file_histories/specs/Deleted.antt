@@ -1,9 +1,8 @@
 -- The revision in which something was taken away.
-use Rattle.std.specs.Prelude.{ℕ, zero, suc, ◌-◌, Bool, true, false, not, ◌&&◌, List, [], ◌∷◌, Option, None, if◌then◌else◌}
-use Rattle.std.specs.List.{find, list_any}
+use Rattle.std.specs.{Prelude.{ℕ, zero, suc, ◌-◌, Bool, true, false, not, ◌&&◌, List, [], ◌∷◌, Option, None, if◌then◌else◌}, List.{find, list_any}}
 use Rattle.svnpath.specs.Paths.{is_at_or_under, PathValue}
-use Rattle.repo_api.specs.{Histories.{Changed, History, history_of}, Kinds.{is_present, kind_at}, States.RepoState}
-use Rattle.repo_api.specs.{declared.change.Action.Action, declared.change.Action.TheVariants.{Add, Delete, Replace, Modify}}
+use Rattle.repo_api.specs.{Histories.{Changed, History, history_of}, Kinds.{is_present, kind_at}, States.RepoState, declared.change.Action.Action}
+use Rattle.repo_api.specs.declared.change.Action.TheVariants.{Add, Delete, Replace, Modify}
 
 abbrev pub is_modify : Action → Bool
 is_modify Add = false

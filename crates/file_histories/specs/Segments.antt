@@ -1,12 +1,11 @@
 -- Where something was, revision by revision: stretches of one path, and gaps.
-use Rattle.std.specs.Prelude.{ℕ, suc, ◌+◌, ◌-◌, ◌*◌, length, Bool, true, false, List, [], ◌∷◌, ◌++◌, Option, Some, None, if◌then◌else◌, max, min, nat_le, nat_lt}
-use Rattle.std.specs.List.{filter_map}
+use Rattle.std.specs.Prelude.{ℕ, suc, ◌+◌, ◌-◌, ◌*◌, length, Bool, true, false, List, [], ◌∷◌, ◌++◌, Option, Some, None, if◌then◌else◌, max, min, nat_le}
+use Rattle.std.specs.{Prelude.nat_lt, List.filter_map}
 use Rattle.svnpath.specs.Paths.{PathValue}
 use Rattle.repo_api.specs.Histories.{History}
 use Rattle.traces.specs.{Traces.{is_copied, trace}, declared.place.Place.Place}
 use Rattle.history.specs.Logs.{place_at}
-use Rattle.file_histories.specs.declared.segment.Segment.{Segment}
-use Rattle.file_histories.specs.declared.segments.Segments.{Segments}
+use Rattle.file_histories.specs.{declared.segment.Segment.Segment, declared.segments.Segments.Segments}
 
 -- the revisions from first to last, in which something was at one path
 abbrev pub stretch : ℕ → ℕ → PathValue → Segment

@@ -2,9 +2,8 @@
 ghost use Rattle.std.specs.Prelude.{◌≡◌, ◌++◌, IfOk, map};
 ghost use Rattle.file_histories.specs.Differing.{differing, differing_of, is_other, names_in_both};
 
-use byte_string::ByteString;
+use byte_string::{ByteString, Sequence};
 use repo_api::{Properties, PropertyValue, is_same_value};
-use sequence::Sequence;
 use std::alloc::{AllocError, Global};
 
 /// Properties by their names, each with its value, or without one where it is gone.

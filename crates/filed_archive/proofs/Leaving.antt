@@ -6,12 +6,12 @@ use Rattle.repo_api.specs.declared.repository.Repository as Repository
 use Rattle.store_files.specs.{declared.store.Store.Ghosts, declared.fault.StoreFault.StoreFault}
 use Rattle.store_files.specs.declared.fault.StoreFault.TheVariants as store
 use Rattle.repostore.specs.{Saving.SaveEnds, declared.saves.Saves.Saves}
-use Rattle.stops.specs.Beginnings.{through}
+use Rattle.access.specs.Beginnings.{through}
 use Rattle.published.specs.Files.{Kept}
 use Rattle.archives.specs.{Archives.SaveLeaves, declared.archive.SaveFault.SaveFault}
-use Rattle.store_access.specs.Leaving.{FilesLeave}
-use Rattle.store_access.specs.declared.filed.Filed as Filed
-use Rattle.store_access.proofs.Leaving.{save_leaves}
+use Rattle.stored_repository.specs.Leaving.{FilesLeave}
+use Rattle.stored_repository.specs.declared.filed.Filed as Filed
+use Rattle.stored_repository.proofs.Leaving.{save_leaves}
 use Rattle.filed_archive.specs.{Writing.{told_as, written, SavesFiles, Writes}, declared.unsaved.Unsaved.Unsaved}
 use Rattle.filed_archive.specs.declared.filed_archive.FiledArchive.{FiledArchive}
 

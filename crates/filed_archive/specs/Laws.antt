@@ -3,9 +3,9 @@ use Rattle.std.proofs.Common.{◌≡◌, false, List, [], ◌∷◌, ◌++◌}
 use Rattle.repo_api.specs.States.{RepoState}
 use Rattle.repo_api.specs.declared.repository.Repository as Repository
 use Rattle.store_files.specs.{Folders.Folder, declared.store.Store.Ghosts}
-use Rattle.stops.specs.Beginnings.{AreAmong}
-use Rattle.store_access.specs.declared.filed.Filed as Filed
-use Rattle.store_access.proofs.Leaving as leaving
+use Rattle.access.specs.Beginnings.{AreAmong}
+use Rattle.stored_repository.specs.declared.filed.Filed as Filed
+use Rattle.stored_repository.proofs.Leaving as leaving
 use Rattle.filed_archive.specs.{Writing.{Leaves, stands_of}, declared.filed_archive.FiledArchive.FiledArchive}
 
 module _ {F S T : Type 0} {f : Filed.Ghosts F T} {r : Repository.Ghosts F T} {s : Ghosts S} where

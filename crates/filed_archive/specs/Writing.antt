@@ -7,9 +7,9 @@ use Rattle.store_files.specs.declared.fault.StoreFault.{StoreFault}
 use Rattle.store_files.specs.declared.fault.StoreFault.TheVariants as store
 use Rattle.repostore.specs.{Current.count_in, Files.{Files, with_locks, with_properties, with_revision}, Saving.{IsSaved, SaveEnds, SaveMakes}}
 use Rattle.repostore.specs.declared.saves.Saves.{Saves}
-use Rattle.stops.specs.Beginnings.{through}
-use Rattle.store_access.specs.Leaving.{FilesLeave, FilesStand}
-use Rattle.store_access.specs.declared.filed.Filed as Filed
+use Rattle.access.specs.Beginnings.{through}
+use Rattle.stored_repository.specs.Leaving.{FilesLeave, FilesStand}
+use Rattle.stored_repository.specs.declared.filed.Filed as Filed
 use Rattle.published.specs.Files.{Kept}
 use Rattle.archives.specs.{Archives.SaveLeaves, declared.archive.SaveFault.SaveFault}
 use Rattle.archives.specs.declared.archive.SaveFault.TheVariants as faults

@@ -6,8 +6,8 @@ use archives::{Archive, SaveFault};
 use published::Files;
 use repo_api::{ChangeFault, CommitAsk, LockAsk, PropertyAsk, UnlockAsk};
 use std::mem::drop;
-use store_access::Filed;
 use store_files::Store;
+use stored_repository::Filed;
 
 impl<F: Filed, S: Store> Files for FiledArchive<F, S> {
     ghost use Rattle.filed_archive.specs.Writing.{kept_of};
@@ -24,8 +24,7 @@ impl<F: Filed, S: Store> Files for FiledArchive<F, S> {
 }
 
 impl<F: Filed, S: Store> Archive<F> for FiledArchive<F, S> {
-    ghost use Rattle.filed_archive.specs.Writing.{Leaves, Writes, stands_of};
-    ghost use Rattle.filed_archive.specs.Laws.{saves, stays, joins, among, rests};
+    ghost use Rattle.filed_archive.specs.{Writing.{Leaves, Writes, stands_of}, Laws.{saves, stays, joins, among, rests}};
 
     type Unsaved = Unsaved<F>;
 

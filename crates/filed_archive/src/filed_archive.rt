@@ -1,11 +1,11 @@
 //! A repository in files that a keeper alone changes.
 ghost use Rattle.std.specs.Prelude.{◌≡◌, false};
 ghost use Rattle.repostore.specs.Saving.{Stands};
-ghost use Rattle.store_access.specs.Keeping.{Keeps, HasRepository};
+ghost use Rattle.stored_repository.specs.Keeping.{Keeps, HasRepository};
 
 use repostore::Saves;
-use store_access::{Filed, StoredRepository};
 use store_files::Store;
+use stored_repository::{Filed, StoredRepository};
 
 /// A repository in files. While changes are saved, the files are those of the repository.
 pub struct FiledArchive<F: Filed, S: Store> {

@@ -9,8 +9,8 @@ use crate::unsaved::{ChangedFiles, Unsaved};
 use archives::SaveFault;
 use repostore::Saves;
 use std::mem::drop;
-use store_access::Filed;
 use store_files::{Store, StoreFault};
+use stored_repository::Filed;
 
 /// Says how a save that failed is answered, by whether saves have come to a halt.
 fn told(is_halted: bool, fault: StoreFault) -> SaveFault

@@ -4,8 +4,8 @@ use access::{Changes, Committed, NotCommitted, SplitAccess};
 use published::Naming;
 use repo_api::{ChangeFault, CommitAsk, LockAsk, PropertyAsk, UnlockAsk};
 use std::sync::{Arc, Wait};
-use store_access::Filed;
 use store_files::Store;
+use stored_repository::Filed;
 
 /// The lock of a repository in files that others change too, and what waits for it.
 pub struct ServedChanges<'r, F: Filed, S: Store, J: Naming, W: Wait> {

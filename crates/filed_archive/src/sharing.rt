@@ -11,8 +11,8 @@ use seats::Seat;
 use sharedrepo::SharedRepo;
 use std::alloc::Global;
 use std::mem::drop;
-use store_access::{Filed, StoredRepository};
 use store_files::{Store, StoreFault};
+use stored_repository::{Filed, StoredRepository};
 
 /// A repository in files that threads share.
 pub type ServedRepo<F, S, J> = SharedRepo<F, FiledArchive<F, S>, J>;

@@ -3,7 +3,7 @@ ghost use Rattle.std.specs.Prelude.{◌≡◌, IfOk, None};
 ghost use Rattle.repo_api.specs.Accepted.{IsJudged};
 
 use repo_api::ChangeFault;
-use store_access::{Filed, NewProperties, NewRevision};
+use stored_repository::{Filed, NewProperties, NewRevision};
 
 /// What a change writes.
 #[derive(Drop)]

@@ -4,11 +4,11 @@ use Rattle.std.proofs.lemmas.Option.{none-some, same_Some}
 use Rattle.std.specs.{Arc.arc_value, Prelude.{Bool, IsSome, IsSomeAnd, option_and_then}, Result.result_ok}
 use Rattle.repo_api.specs.{Trees.is_directory_content, declared.entry.Content.Content}
 use Rattle.repo_api.specs.declared.entry.Content.TheVariants as contents
-use Rattle.fsfs_ids.specs.{declared.id.FileId.FileId, declared.representation.Representation.Representation}
+use Rattle.fsfs_text.specs.{declared.id.FileId.FileId, declared.representation.Representation.Representation}
 use Rattle.fsfs_nodes.specs.{declared.entries.DirectoryEntry.DirectoryEntry, declared.entries.EntryKind.EntryKind}
 use Rattle.fsfs_nodes.specs.{declared.entries.EntryKind.TheVariants.{File, Directory}, declared.node.FileNode.FileNode}
-use Rattle.fsfs_reading.specs.Pieces as reading
-use Rattle.fsfs_reading.specs.declared.piece.FilePiece.{FilePiece}
+use Rattle.fsfs.specs.Pieces as reading
+use Rattle.fsfs.specs.declared.piece.FilePiece.{FilePiece}
 use Rattle.filed_trees.specs.{Pieces.{RevisionBytes, content_by, entries_at, piece_in, text_in}, Changes.ChangeRows}
 use Rattle.filed_trees.specs.{Comparing.{AreFor, IsEarlier, IsHere, earlier_properties, earlier_text, tables_of}, Tables.IsFiled, Readable.AreEntries}
 use Rattle.filed_trees.specs.Readable.{AreRightKids, AreRightProperties, IsKept, IsOfKind, IsReadable, IsRightContent, IsRightText, IsSaid, kind_before}

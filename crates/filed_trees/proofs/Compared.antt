@@ -6,8 +6,8 @@ use Rattle.svnpath.specs.Paths.{PathValue}
 use Rattle.repo_api.specs.{declared.entry.Mark.Mark, declared.entry.Mark.TheVariants.Made}
 use Rattle.revision_data.specs.Found.{found}
 use Rattle.noderevs.specs.{Held.node_at, Nodes.mark_of, declared.node_rev.NodeId.NodeId, declared.node_rev.NodeRev.NodeRev}
-use Rattle.fsfs_ids.specs.declared.id.FileId.{FileId}
-use Rattle.fsfs_reading.specs.declared.piece.FilePiece.{FilePiece}
+use Rattle.fsfs_text.specs.declared.id.FileId.{FileId}
+use Rattle.fsfs.specs.declared.piece.FilePiece.{FilePiece}
 use Rattle.filed_trees.specs.{Pieces.{RevisionBytes, piece_in, path_in, properties_in}, Changes.ChangeRows}
 use Rattle.filed_trees.specs.{Trees.{own_from, own_at, own_below, own_in, first_id}, Tables.{placed_in, placed_of, IsFiled, IsPlaced}}
 use Rattle.filed_trees.specs.Comparing.{AreFor, HasContent, IsEarlier, IsOfLast, WasFiled, earlier_own, revision_in, tables_of}

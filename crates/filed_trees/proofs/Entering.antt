@@ -6,7 +6,7 @@ use Rattle.std.specs.Prelude.{Result, Ok, Err, IfOk, All, IsSome, IsSomeAnd, sli
 use Rattle.svnpath.specs.{PathLaws.{same_component_is, same_component_refl}, Paths.{Component, same_component}}
 use Rattle.shared_map.specs.Entries.{by_bytes}
 use Rattle.noderevs.specs.{Nodes.{kid_named, Kids}, declared.node_rev.NodeId.NodeId}
-use Rattle.fsfs_ids.specs.declared.id.FileId.{FileId}
+use Rattle.fsfs_text.specs.declared.id.FileId.{FileId}
 use Rattle.fsfs_nodes.specs.declared.entries.DirectoryEntry.{DirectoryEntry}
 use Rattle.filed_trees.specs.{Pieces.entry_named, Tables.IsAt, declared.table.Table.Table}
 use Rattle.filed_trees.proofs.Named.{at_name}

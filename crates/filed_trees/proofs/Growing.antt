@@ -8,10 +8,10 @@ use Rattle.repo_api.specs.declared.entry.Content.TheVariants as contents
 use Rattle.revision_data.specs.Found.{found}
 use Rattle.noderevs.specs.Nodes as nodes
 use Rattle.noderevs.specs.{Nodes.node_in, declared.node_rev.Block.Block, declared.node_rev.NodeId.NodeId, declared.node_rev.NodeRev.NodeRev}
-use Rattle.fsfs_ids.specs.{declared.id.FileId.FileId, declared.representation.Representation.Representation}
+use Rattle.fsfs_text.specs.{declared.id.FileId.FileId, declared.representation.Representation.Representation}
 use Rattle.fsfs_nodes.specs.{declared.entries.EntryKind.EntryKind, declared.entries.EntryKind.TheVariants.{File, Directory}}
-use Rattle.fsfs_parts.specs.declared.change.FileChange.{FileChange}
-use Rattle.fsfs_reading.specs.{Pieces.revision_of, declared.piece.FilePiece.FilePiece}
+use Rattle.fsfs_nodes.specs.declared.change.FileChange.{FileChange}
+use Rattle.fsfs.specs.{Pieces.revision_of, declared.piece.FilePiece.FilePiece}
 use Rattle.filed_trees.specs.Pieces.{RevisionBytes, piece_in, body_at_line, text_in, properties_in, entries_at, entries_by, entry_named, content_by, path_in}
 use Rattle.filed_trees.specs.{Changes.{ChangeRows, revision_in, changes_by, changes_in}, Trees.{own_from, own_at, own_below, own_in, first_id, root_in}}
 use Rattle.filed_trees.specs.{Tables.{placed_in, IsAt, IsFiled, IsPlaced, AreTabled, HasRows}, declared.placed.Placed.Placed, declared.table.Table.Table}

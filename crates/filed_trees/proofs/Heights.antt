@@ -6,16 +6,14 @@ use Rattle.std.proofs.lemmas.Option.{none-some, same_Some, slice_get_within, get
 use Rattle.std.specs.{Prelude.{Result, Ok, IfSome, IsSome, IsSomeAnd, is_some, nat_lt, slice_get}, Result.result_ok}
 use Rattle.svnpath.specs.Paths.{Component, same_component}
 use Rattle.repo_api.specs.States.{ChangeMap}
-use Rattle.fsfs_lines.specs.declared.fault.FileFault.{FileFault}
+use Rattle.fsfs_text.specs.{declared.fault.FileFault.FileFault, declared.id.FileId.FileId, declared.representation.Representation.Representation}
 use Rattle.noderevs.specs.{Heights.{AreHigh, IsHeight}, Held.{blocks_of, node_at}, Nodes.{kid_named, kid_of, Look, node_in, with_block}}
 use Rattle.noderevs.specs.{declared.node_rev.Block.Block, declared.node_rev.NodeId.NodeId, declared.node_rev.NodeRev.NodeRev, declared.nodes.Nodes.Nodes}
 use Rattle.noderevs.proofs.Pushing.{last_place, next_is_free, other_place}
-use Rattle.fsfs_ids.specs.{declared.id.FileId.FileId, declared.representation.Representation.Representation}
 use Rattle.fsfs_nodes.specs.{Entries.entries_of, declared.entries.DirectoryEntry.DirectoryEntry, declared.entries.EntryKind.EntryKind}
-use Rattle.fsfs_nodes.specs.{declared.entries.EntryKind.TheVariants.{File, Directory}, declared.node.FileNode.FileNode}
-use Rattle.fsfs_parts.specs.declared.change.FileChange.{FileChange}
-use Rattle.fsfs_reading.specs.Pieces as reading
-use Rattle.fsfs_reading.specs.{Pieces.{is_before, revision_of}, declared.piece.FilePiece.FilePiece}
+use Rattle.fsfs_nodes.specs.{declared.entries.EntryKind.TheVariants.{File, Directory}, declared.node.FileNode.FileNode, declared.change.FileChange.FileChange}
+use Rattle.fsfs.specs.Pieces as reading
+use Rattle.fsfs.specs.{Pieces.{is_before, revision_of}, declared.piece.FilePiece.FilePiece}
 use Rattle.filed_trees.specs.Comparing.{HaveHeights, IsOfLast, IsHere}
 use Rattle.filed_trees.specs.Pieces.{RevisionBytes, body_at_line, entries_at, entries_by, entries_in, entry_named, piece_in}
 use Rattle.filed_trees.specs.Readable.{AreReadable, IsReadable, IsTabled, kind_before, text_before, IsKept}

@@ -2,19 +2,22 @@
 use Rattle.std.proofs.Common.{◌≡◌, ◌+◌, ◌<◌, Bool, true, false, [], ◌∷◌, ◌++◌, Option, Some, None, length, get_or, ℕ, refl, sym, ap, subst, ◌∙◌, arith}
 use Rattle.std.proofs.{lemmas.Bool.false≢true, lemmas.List.{append-nil, append_assoc, get_or-map, map-append}, lemmas.Fn.always_returns_same}
 use Rattle.std.proofs.lemmas.List.Sorted.{Contains-permutation, IsPermutation-sym, IsPermutation-map, IsPermutation-refl, ranks_by}
-use Rattle.std.proofs.{lemmas.Map.Entries.{length-keys_of, lookup_tail}, lemmas.Map.Made.is_some-lookup, lemmas.Map.Views.{Contains-from_lookup, lookup-from_Contains}}
-use Rattle.std.proofs.lemmas.Map.Keys.{IsDistinct-from_sorted, IsDistinct-head, IsDistinct-tail, IsDistinct-push, IsDistinct-IsPermutation, Less-from_sorted, apart_from_distinct, sorted_from_all_adjacent}
+use Rattle.std.proofs.{lemmas.Map.Entries.{length-keys_of, lookup_tail}, lemmas.Map.Made.is_some-lookup}
+use Rattle.std.proofs.{lemmas.Map.Views.{Contains-from_lookup, lookup-from_Contains}, lemmas.Map.Keys.{IsDistinct-from_sorted, IsDistinct-head}}
+use Rattle.std.proofs.lemmas.Map.Keys.{IsDistinct-tail, IsDistinct-push, IsDistinct-IsPermutation, Less-from_sorted, apart_from_distinct}
+use Rattle.std.proofs.lemmas.Map.Keys.{sorted_from_all_adjacent}
 use Rattle.std.specs.{BTreeMap.{insert_entry, is_at}, Cmp.eq_by_cmp_equiv, FinMap.Entries.by_order, Prelude.{is_some, IsSome}}
-use Rattle.std.specs.FinMap.{entries, entries-insert, find, from_entries, from_entries_push, get-from_entries, put}
-use Rattle.std.specs.{Bool.Decides, List.{AllByRecursion, IsAllAdjacentAnswer, IsDistinct, list_any}, List.Sorted.{IsPermutation, IsSortedBy, IsSortedByClosure, IsStrictlySortedBy}, Map.{keys_of, lookup}}
-use Rattle.std.specs.{Fn.Called, Ordering.{eq_by_cmp, is_eq, is_lt, match_ordering, ordering_reverse}, declared.cmp.Ordering.Ordering}
+use Rattle.std.specs.{FinMap.{entries, entries-insert, find, from_entries, from_entries_push, get-from_entries, put}, Bool.Decides}
+use Rattle.std.specs.List.{AllByRecursion, IsAllAdjacentAnswer, IsDistinct, list_any}
+use Rattle.std.specs.{List.Sorted.{IsPermutation, IsSortedBy, IsSortedByClosure, IsStrictlySortedBy}, Map.{keys_of, lookup}, Fn.Called}
+use Rattle.std.specs.{Ordering.{eq_by_cmp, is_eq, is_lt, match_ordering, ordering_reverse}, declared.cmp.Ordering.Ordering}
 use Rattle.std.specs.declared.cmp.Ordering.TheVariants.{Less, Equal, Greater}
 use denote.Param.Members.{Mut}
 use denote.Ref.{Bor}
 use Rattle.svnpath.specs.{PathLaws.at_is, Paths.{path_cmp, path_cmp-IsAntisymmetric, path_cmp_total, PathValue}}
 use Rattle.repo_api.specs.{StateLaws.{entries_of, get_entries, get_path, same_changes}, declared.change.Change.Change}
 use Rattle.revision_data.specs.Found.{found}
-use Rattle.fsfs_ids.specs.Maybe.{◌>>=◌}
+use Rattle.fsfs_text.specs.Maybe.{◌>>=◌}
 use Rattle.filed_trees.specs.Changes.{ChangeRows, with_new, with_rows}
 
 -- no two of the changes are of one path

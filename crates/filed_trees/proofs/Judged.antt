@@ -1,8 +1,8 @@
 -- Where a fault of a file is answered.
 use Rattle.std.proofs.{Common.{◌≡◌, sym, ap, subst, ◌∙◌, ⊎_elim}, lemmas.Bool.false≢true}
 use Rattle.std.specs.{Prelude.{◌⊎◌, Result, Ok, Err, IfOk, IsSome, is_some}, Result.result_ok}
-use Rattle.fsfs_lines.specs.declared.fault.FileFault.{FileFault}
-use Rattle.fsfs_lines.specs.declared.fault.FileFault.TheVariants.{Truncated, BadLine, Delta, Digest, Dangling, NoMemory, WrongFormat}
+use Rattle.fsfs_text.specs.declared.fault.FileFault.{FileFault}
+use Rattle.fsfs_text.specs.declared.fault.FileFault.TheVariants.{Truncated, BadLine, Delta, Digest, Dangling, NoMemory, WrongFormat}
 use Rattle.repostore.specs.Reading.{IfFileFaulty}
 use Rattle.filed_trees.specs.Readable.{Judges, ReadsWhere}
 

@@ -5,7 +5,7 @@ use Rattle.svnpath.specs.Paths.{Component}
 use Rattle.repo_api.specs.{Trees.content_text, declared.entry.Content.Content}
 use Rattle.repo_api.specs.declared.entry.Content.TheVariants as contents
 use Rattle.noderevs.specs.Nodes.{kid_named, kid_of, Kids}
-use Rattle.fsfs_ids.specs.declared.representation.Representation.{Representation}
+use Rattle.fsfs_text.specs.declared.representation.Representation.{Representation}
 use Rattle.fsfs_nodes.specs.{declared.entries.DirectoryEntry.DirectoryEntry, declared.entries.EntryKind.EntryKind}
 use Rattle.fsfs_nodes.specs.{declared.entries.EntryKind.TheVariants.{File, Directory}, declared.node.FileNode.FileNode}
 use Rattle.filed_trees.specs.{Pieces.{RevisionBytes, text_in, entries_at, entries_by, entry_named, content_by}, Tables.IsAt}

@@ -1,11 +1,12 @@
 -- The entries of a node and those that a file says.
 use Rattle.std.proofs.Common.{◌≡◌, suc, Bool, true, false, cond, List, [], ◌∷◌, map, get_or, Option, Some, None, refl, sym, ap, subst, ◌∙◌, arith, ◌⊎◌, ⊎_elim}
-use Rattle.std.proofs.{lemmas.Bool.false≢true, lemmas.List.Elements.{All-contains, All-map}, lemmas.List.length-map, lemmas.Option.none-some, Math.ListN.get_or-map}
+use Rattle.std.proofs.{lemmas.Bool.false≢true, lemmas.List.Elements.{All-contains, All-map}, lemmas.List.length-map, lemmas.Option.none-some}
+use Rattle.std.proofs.Math.ListN.{get_or-map}
 use Rattle.std.specs.{Borrow.Bor, BTreeMap.is_at, Cmp.Lexicographic.{slice_cmp, texts_ties}, Map.Iter.deref, Option.option_or, Ordering.nat_cmp}
 use Rattle.std.specs.Prelude.{All, Contains, IsSome}
 use Rattle.svnpath.specs.{PathLaws.same_component_is, Paths.{Component, same_component}}
 use Rattle.noderevs.specs.declared.node_rev.NodeId.{NodeId}
-use Rattle.fsfs_ids.specs.declared.id.FileId.{FileId}
+use Rattle.fsfs_text.specs.declared.id.FileId.{FileId}
 use Rattle.fsfs_nodes.specs.declared.entries.DirectoryEntry.{DirectoryEntry}
 use Rattle.filed_trees.specs.{Pieces.entry_named, Tables.IsAt, declared.table.Table.Table}
 

@@ -3,7 +3,7 @@ use Rattle.std.proofs.Common.{◌≡◌, ◌+◌, ◌<◌, ◌≤◌, ℕ, zero,
 use Rattle.std.proofs.{Common.{ap, subst, ◌∙◌, arith, ⊎_elim}, lemmas.Bool.{cases_lt, false≢true}, lemmas.Option.{same_Some, slice_get_within}}
 use Rattle.std.specs.{BTreeMap.is_at, Cmp.Lexicographic.slice_cmp, Ordering.nat_cmp, Prelude.{All, IfSome, IsSome, IsSomeAnd, slice_get}}
 use Rattle.svnpath.specs.{PathLaws.{same_component_is, same_component_refl}, Paths.{Component, same_component}}
-use Rattle.fsfs_ids.specs.declared.id.FileId.{FileId}
+use Rattle.fsfs_text.specs.declared.id.FileId.{FileId}
 use Rattle.fsfs_nodes.specs.declared.entries.DirectoryEntry.{DirectoryEntry}
 use Rattle.filed_trees.specs.{Pieces.entry_named, Readable.{AreEntries, AreOnce}}
 use Rattle.filed_trees.proofs.{Entering.{at_entry, of_some}, Named.at_name}

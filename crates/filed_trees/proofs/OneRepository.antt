@@ -4,19 +4,17 @@ use Rattle.std.proofs.{Common.{arith, ⊎_elim, inl, inr, ◌++◌, length-appen
 use Rattle.std.proofs.lemmas.Option.{none-some, same_Some, slice_get-get_or, slice_get-map, slice_get_within}
 use Rattle.std.specs.{Arc.arc_value, Prelude.{Result, Ok, Err, IsSomeAnd, slice_get, ◌⊎◌, IfSome}, Result.result_ok, FinMap.entries}
 use Rattle.repo_api.specs.States.{ChangeMap}
-use Rattle.fsfs_lines.specs.declared.fault.FileFault.{FileFault}
+use Rattle.fsfs_text.specs.{declared.fault.FileFault.FileFault, declared.id.FileId.FileId}
 use Rattle.noderevs.specs.{Held.{blocks_of, node_at, root_at}, Nodes.{kid_of, mark_of, node_in, root_in}, declared.node_rev.Block.Block}
 use Rattle.noderevs.specs.{declared.node_rev.NodeId.NodeId, declared.node_rev.NodeRev.NodeRev, declared.nodes.Nodes.Nodes}
-use Rattle.fsfs_ids.specs.declared.id.FileId.{FileId}
-use Rattle.fsfs_parts.specs.declared.change.FileChange.{FileChange}
-use Rattle.fsfs_reading.specs.{Pieces.revision_of, declared.piece.FilePiece.FilePiece}
+use Rattle.fsfs_nodes.specs.{declared.change.FileChange.FileChange, declared.entries.DirectoryEntry.DirectoryEntry}
+use Rattle.fsfs.specs.{Pieces.revision_of, declared.piece.FilePiece.FilePiece}
 use Rattle.filed_trees.specs.{Pieces.{RevisionBytes, content_in, entries_in, entry_named, path_in, properties_in}, Changes.revision_in}
 use Rattle.filed_trees.specs.{Comparing.{AreSame, IsSameNode}, Tables.{AreTabled, HasRows, IsAt, IsFiled, IsPlaced, placed_in, placed_of}}
 use Rattle.filed_trees.specs.{Values.AreSameRevisions, declared.placed.Placed.Placed, declared.table.Table.Table}
 use Rattle.filed_trees.specs.Readable.{AreEntries, IsOneOf, IsReadable, IsReadableFile, IsTabled}
 use Rattle.filed_trees.specs.Trees as trees
 use Rattle.filed_trees.proofs.{Read.offsets_fall, Rows.forwards}
-use Rattle.fsfs_nodes.specs.declared.entries.DirectoryEntry.{DirectoryEntry}
 use Rattle.noderevs.proofs.Pushing.{last_place}
 
 -- a file that is there says what it says

@@ -3,15 +3,14 @@ use Rattle.std.proofs.Common.{◌≡◌, ℕ, zero, suc, ◌==◌, ◌&&◌, Boo
 use Rattle.std.proofs.{Common.{drop, refl, sym, ap, subst, ◌∙◌, arith, rules, ◌<◌, ◌≤◌}, lemmas.Bool.{false≢true, eqb-true}}
 use Rattle.std.proofs.lemmas.Option.{none-some, same_Some}
 use Rattle.std.specs.{Prelude.{slice_get, slice_index_or, slice_set, replicate, nat_lt, codes, if◌then◌else◌}, Result.result_ok}
-use Rattle.fsfs_lines.specs.{declared.fault.FileFault.FileFault, declared.fault.FileFault.TheVariants.Dangling, Reading.◌>>=◌}
-use Rattle.fsfs_ids.specs.{declared.id.FileId.FileId, declared.representation.Representation.Representation, Ids.id_of, Places.place_of}
-use Rattle.fsfs_ids.specs.Representations.{representation_of}
+use Rattle.fsfs_text.specs.{declared.fault.FileFault.FileFault, declared.fault.FileFault.TheVariants.Dangling, Reading.◌>>=◌, declared.id.FileId.FileId}
+use Rattle.fsfs_text.specs.{declared.representation.Representation.Representation, Ids.id_of, Places.place_of, Representations.representation_of}
 use Rattle.fsfs_nodes.specs.Headers.{Line, block_of, field, optional, value_of}
 use Rattle.fsfs_nodes.specs.{Nodes.{standing, id_line, own_id, node_of, node_from, node_at, kind_of, count_of, path_of}, declared.node.FileNode.FileNode}
-use Rattle.fsfs_nodes.specs.declared.entries.DirectoryEntry.{DirectoryEntry}
-use Rattle.fsfs_parts.specs.{Bodies.body_at, Changes.changes_of, Trailers.trailer_of, declared.change.FileChange.FileChange}
-use Rattle.fsfs_reading.specs.Pieces.{new_body, some_of, piece_at, entries_in, marked, step_of, before, pieces_below, pieces_of, part_behind, revision_of}
-use Rattle.fsfs_reading.specs.{Pieces.is_before, declared.piece.FilePiece.FilePiece}
+use Rattle.fsfs_nodes.specs.{declared.entries.DirectoryEntry.DirectoryEntry, Bodies.body_at, Changes.changes_of, Trailers.trailer_of}
+use Rattle.fsfs_nodes.specs.declared.change.FileChange.{FileChange}
+use Rattle.fsfs.specs.Pieces.{new_body, some_of, piece_at, entries_in, marked, step_of, before, pieces_below, pieces_of, part_behind, revision_of, is_before}
+use Rattle.fsfs.specs.declared.piece.FilePiece.{FilePiece}
 use Rattle.filed_trees.specs.{Pieces.{RevisionBytes, same_number, same_id, if_named, piece_in, body_at_line}, Comparing.{CameWith, IsHere, IsOfLast}}
 
 abbrev is_ok : {X E : Type 0} → Result X E → Bool

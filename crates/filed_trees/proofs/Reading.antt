@@ -6,8 +6,8 @@ use Rattle.std.specs.{FinMap.entries, Prelude.{IsSomeAnd, Ok, option_and_then, o
 use Rattle.repo_api.specs.States.{ChangeMap}
 use Rattle.noderevs.specs.{Held.{blocks_of, node_at, root_at}, Nodes.{node_in, root_in}, declared.node_rev.Block.Block, declared.node_rev.NodeId.NodeId}
 use Rattle.noderevs.specs.{declared.node_rev.NodeRev.NodeRev, declared.nodes.Nodes.Nodes}
-use Rattle.fsfs_parts.specs.declared.change.FileChange.{FileChange}
-use Rattle.fsfs_reading.specs.{Pieces.revision_of, declared.piece.FilePiece.FilePiece}
+use Rattle.fsfs_nodes.specs.declared.change.FileChange.{FileChange}
+use Rattle.fsfs.specs.{Pieces.revision_of, declared.piece.FilePiece.FilePiece}
 use Rattle.filed_trees.specs.{Pieces.{RevisionBytes, entry_named}, Changes.{ChangeRows, changes_by}, Comparing.{AreForAll, AreNew, AreSame, IsSameNode}}
 use Rattle.filed_trees.specs.{Tables.{AreTabled, HasRows, IsAt, IsFiled, IsPlaced, placed_in}, declared.placed.Placed.Placed, declared.table.Table.Table}
 use Rattle.filed_trees.specs.Trees as trees

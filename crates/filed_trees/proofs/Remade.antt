@@ -1,19 +1,20 @@
 -- Entries that are listed in the order of their names.
-use Rattle.std.proofs.Common.{◌≡◌, ◌+◌, ◌<◌, ℕ, zero, suc, Bool, true, false, ◌&&◌, cond, List, [], ◌∷◌, ◌++◌, map, length, get_or, Option, Some, None, option_map, refl, sym, ap, subst}
-use Rattle.std.proofs.{Common.{arith, ⊎_elim, ◌∙◌}, lemmas.Bool.{cases_lt, false≢true}, lemmas.Cmp.nat_list_cmp_total, lemmas.List.{get_or-map, length-map, map-append}}
+use Rattle.std.proofs.Common.{◌≡◌, ◌+◌, ◌<◌, ℕ, zero, suc, Bool, true, false, ◌&&◌, cond, List, [], ◌∷◌, ◌++◌, map, length, get_or, Option, Some, None}
+use Rattle.std.proofs.{Common.{option_map, refl, sym, ap, subst, arith, ⊎_elim, ◌∙◌}, lemmas.Bool.{cases_lt, false≢true}, lemmas.Cmp.nat_list_cmp_total}
+use Rattle.std.proofs.lemmas.List.{get_or-map, length-map, map-append}
 use Rattle.std.proofs.lemmas.Map.Keys.{IsDistinct-from_sorted, Less-from_sorted, apart_from_distinct, sorted_from_all_adjacent}
 use Rattle.std.proofs.lemmas.Option.{none-some, same_Some, slice_get-get_or, slice_get_within, get_or_from_slice_get}
-use Rattle.std.specs.{Bool.Decides, Borrow.Bor, FinMap.{find, entries, get-entries}, FinMap.Entries.{is_sorted, below_all}, List.{AllByRecursion, IsAllAdjacentAnswer}}
-use Rattle.std.specs.{List.Sorted.IsStrictlySortedBy, Map.keys_of, Ordering.{eq_by_cmp, is_lt}, Prelude.{All, IfSome, IsSomeAnd, slice_get, T, Result, Ok, Err}, Result.result_ok}
-use Rattle.std.specs.{declared.cmp.Ordering.Ordering, declared.cmp.Ordering.TheVariants.{Less, Equal, Greater}, Cmp.{eq_by_cmp_equiv, Lexicographic.texts_ties}, Option.option_and_then}
+use Rattle.std.specs.{Bool.Decides, Borrow.Bor, FinMap.{find, entries, get-entries}, FinMap.Entries.{is_sorted, below_all}}
+use Rattle.std.specs.{List.{AllByRecursion, IsAllAdjacentAnswer}, List.Sorted.IsStrictlySortedBy, Map.keys_of, Ordering.{eq_by_cmp, is_lt}}
+use Rattle.std.specs.{Prelude.{All, IfSome, IsSomeAnd, slice_get, T, Result, Ok, Err}, Result.result_ok, declared.cmp.Ordering.Ordering}
+use Rattle.std.specs.{declared.cmp.Ordering.TheVariants.{Less, Equal, Greater}, Cmp.eq_by_cmp_equiv, Cmp.Lexicographic.texts_ties, Option.option_and_then}
 use Rattle.svnpath.specs.{PathLaws.{same_component_is, same_component_refl}, Paths.{Component, same_component}}
 use Rattle.shared_map.specs.{Entries.by_bytes, Rows.row_entries}
 use Rattle.noderevs.specs.{Nodes.Kids, declared.node_rev.NodeId.NodeId}
-use Rattle.fsfs_lines.specs.declared.fault.FileFault.{FileFault}
-use Rattle.fsfs_ids.specs.{Maybe.◌>>=◌, declared.id.FileId.FileId, declared.representation.Representation.Representation}
+use Rattle.fsfs_text.specs.{declared.fault.FileFault.FileFault, Maybe.◌>>=◌, declared.id.FileId.FileId, declared.representation.Representation.Representation}
 use Rattle.fsfs_nodes.specs.{Entries.entries_of, declared.entries.DirectoryEntry.DirectoryEntry}
-use Rattle.filed_trees.specs.{Pieces.{RevisionBytes, body_at_line, entry_named}, Comparing.{AreAt, AreNodesOf, HasEntries}, Tables.IsAt, Readable.{AreEntries, AreOnce, HasPlaced, IsTabled, ReadsWhere}}
-use Rattle.filed_trees.specs.{declared.placed.Placed.Placed, declared.table.Table.Table}
+use Rattle.filed_trees.specs.{Pieces.{RevisionBytes, body_at_line, entry_named}, Comparing.{AreAt, AreNodesOf, HasEntries}, Tables.IsAt}
+use Rattle.filed_trees.specs.{Readable.{AreEntries, AreOnce, HasPlaced, IsTabled, ReadsWhere}, declared.placed.Placed.Placed, declared.table.Table.Table}
 use Rattle.filed_trees.proofs.Judged.{no_part}
 
 abbrev names : List DirectoryEntry → List Component

@@ -3,8 +3,8 @@ use Rattle.std.proofs.Common.{◌≡◌, ◌-◌, ◌<◌, ℕ, List, [], ◌∷
 use Rattle.std.proofs.{Common.{arith, inl, inr, ⊎_elim}, lemmas.Bool.{cases_eq, false≢true}, lemmas.List.{get_or-reverse, length-reverse}}
 use Rattle.std.proofs.lemmas.Option.{none-some, same_Some, slice_get-get_or, slice_get-map, slice_get_within, get_or_from_slice_get}
 use Rattle.std.specs.{Borrow.Bor, Prelude.{◌⊎◌, All, IfSome, IsSome, IsSomeAnd, slice_get}}
-use Rattle.fsfs_ids.specs.declared.id.FileId.{FileId}
-use Rattle.fsfs_reading.specs.declared.piece.FilePiece.{FilePiece}
+use Rattle.fsfs_text.specs.declared.id.FileId.{FileId}
+use Rattle.fsfs.specs.declared.piece.FilePiece.{FilePiece}
 use Rattle.filed_trees.specs.{Pieces.RevisionBytes, Trees.first_id, Tables.placed_of}
 use Rattle.filed_trees.specs.{Readable.{AreEntries, AreReadable, HasPlaced, IsOneOf, IsReadable, IsTabled}, declared.table.Table.Table}
 use Rattle.noderevs.proofs.Pushing.{last_place, other_place}

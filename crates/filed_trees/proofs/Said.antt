@@ -1,11 +1,10 @@
 -- The changes that lines say, read first and then put in order.
-use Rattle.std.proofs.Common.{◌≡◌, [], ◌∷◌, ◌++◌, List, Option, Some, None, refl, sym, ap, ◌∙◌}
-use Rattle.std.proofs.{lemmas.Bool.false≢true}
+use Rattle.std.proofs.{Common.{◌≡◌, [], ◌∷◌, ◌++◌, List, Option, Some, None, refl, sym, ap, ◌∙◌}, lemmas.Bool.false≢true}
 use Rattle.std.specs.Prelude.{is_some, IsSome}
 use Rattle.svnpath.specs.Paths.{PathValue}
 use Rattle.repo_api.specs.declared.change.Change.{Change}
-use Rattle.fsfs_ids.specs.Maybe.{◌>>=◌}
-use Rattle.fsfs_parts.specs.declared.change.FileChange.{FileChange}
+use Rattle.fsfs_text.specs.Maybe.{◌>>=◌}
+use Rattle.fsfs_nodes.specs.declared.change.FileChange.{FileChange}
 use Rattle.filed_trees.specs.Changes.{ChangeRows, change_in, changes_by, with_change, with_changes, with_lines, with_rows}
 
 itself : {X : Type 0} (o : Option X) → (o >>= λ x. Some x) ≡ o

@@ -10,9 +10,9 @@ use Rattle.noderevs.specs.{Heights.{AreHigh, higher}, Held.{count, node_at, root
 use Rattle.noderevs.specs.{Views.{entry_at, find_id, shared_entry, shared_tree}, declared.node_rev.Block.Block, declared.node_rev.NodeId.NodeId}
 use Rattle.noderevs.specs.{declared.node_rev.NodeRev.NodeRev, declared.nodes.Nodes.Nodes}
 use Rattle.noderevs.proofs.Pushing.{next_is_free}
-use Rattle.next_blocks.specs.Rules.{Before, IsMarked, IsNewKid, IsNextRevision, IsOldKid, IsRightFile, IsRightKid, IsRightNode, IsRightRoot, KeepsOwn, NamesOwn}
-use Rattle.next_blocks.specs.Rules.{beside, id_before, id_in, is_made, is_new, past_of, tree_before}
-use Rattle.next_blocks.proofs.Next.{high_now}
+use Rattle.block_rules.specs.Rules.{Before, IsMarked, IsNewKid, IsNextRevision, IsOldKid, IsRightFile, IsRightKid, IsRightNode, IsRightRoot, KeepsOwn, NamesOwn}
+use Rattle.block_rules.specs.Rules.{beside, id_before, id_in, is_made, is_new, past_of, tree_before}
+use Rattle.block_rules.proofs.Next.{high_now}
 use Rattle.filed_trees.specs.{Comparing.{AreSame, IsSameNode}, Values.AreSameNext}
 
 -- ---- what is found, and what trees show

@@ -7,7 +7,7 @@ use Rattle.repo_api.specs.{States.{ChangeMap, Revision}, declared.entry.Mark.The
 use Rattle.noderevs.specs.Nodes as nodes
 use Rattle.noderevs.specs.{Nodes.{kid_at, mark_of, node_in}, Views.{entry_at, find_id, shared_entry, shared_tree}, declared.node_rev.Block.Block}
 use Rattle.noderevs.specs.{declared.node_rev.NodeId.NodeId, declared.node_rev.NodeRev.NodeRev}
-use Rattle.fsfs_ids.specs.declared.id.FileId.{FileId}
+use Rattle.fsfs_text.specs.declared.id.FileId.{FileId}
 use Rattle.filed_trees.specs.{Pieces.RevisionBytes, Changes.{revision_in, changes_in}, StandsFor.IsRevision}
 use Rattle.filed_trees.specs.{Trees.{entry_in, kid_of, find_in, tree_in, root_in}, Tables.{placed_in, IsAt, IsFiled, IsPlaced, AreTabled}}
 use Rattle.filed_trees.specs.{declared.placed.Placed.Placed, declared.table.Table.Table}

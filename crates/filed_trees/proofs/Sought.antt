@@ -1,11 +1,12 @@
 -- The change of a path, among changes in the order of their paths.
-use Rattle.std.proofs.{Common.{◌≡◌, ℕ, true, false, Option, Some, None, HoldsAt, option_map, slice_get, refl, sym, ap, ◌∙◌}, lemmas.Bool.false≢true, lemmas.Option.{get_or_from_slice_get, same_Some}}
+use Rattle.std.proofs.{Common.{◌≡◌, ℕ, true, false, Option, Some, None, HoldsAt, option_map, slice_get, refl, sym, ap, ◌∙◌}, lemmas.Bool.false≢true}
+use Rattle.std.proofs.lemmas.Option.{get_or_from_slice_get, same_Some}
 use Rattle.std.specs.{List.Sorted.{IsNonDecreasingBy, IsPartitionPoint, IsStrictlySortedBy}, Map.keys_of, Ordering.ordering_index, Prelude.is_some}
 use Rattle.std.specs.declared.cmp.Ordering.TheVariants.{Less, Equal, Greater}
 use Rattle.svnpath.specs.Paths.{path_cmp, path_cmp-IsAntisymmetric, PathValue}
 use Rattle.repo_api.specs.declared.change.Change.{Change}
 use Rattle.revision_data.specs.Found.{found}
-use Rattle.next_blocks.proofs.Searching.{hit, miss}
+use Rattle.block_rules.proofs.Searching.{hit, miss}
 use Rattle.filed_trees.specs.Changes.{ChangeRows}
 
 abbrev pub at_path : PathValue → Change → PathValue × Change

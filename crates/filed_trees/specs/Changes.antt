@@ -4,10 +4,10 @@ use Rattle.svnpath.specs.{Paths.{path_cmp, PathValue}, Texts.parsed}
 use Rattle.repo_api.specs.{declared.change.Action.Action, declared.change.Change.Change, declared.change.Source.Source}
 use Rattle.repo_api.specs.declared.change.Action.TheVariants as actions
 use Rattle.revision_data.specs.Found.{found}
-use Rattle.fsfs_ids.specs.{Maybe.◌>>=◌, declared.place.Place.Place}
-use Rattle.fsfs_parts.specs.{declared.change.FileAction.FileAction, declared.change.FileAction.TheVariants.{Add, Delete, Replace, Modify}}
-use Rattle.fsfs_parts.specs.declared.change.FileChange.{FileChange}
-use Rattle.fsfs_reading.specs.{Pieces.revision_of, declared.piece.FilePiece.FilePiece}
+use Rattle.fsfs_text.specs.{Maybe.◌>>=◌, declared.place.Place.Place}
+use Rattle.fsfs_nodes.specs.{declared.change.FileAction.FileAction, declared.change.FileAction.TheVariants.{Add, Delete, Replace, Modify}}
+use Rattle.fsfs_nodes.specs.declared.change.FileChange.{FileChange}
+use Rattle.fsfs.specs.{Pieces.revision_of, declared.piece.FilePiece.FilePiece}
 use Rattle.filed_trees.specs.Pieces.{RevisionBytes}
 
 abbrev pub action_in : FileAction → Action

@@ -7,9 +7,9 @@ use Rattle.repo_api.specs.{Histories.Changed, declared.entry.Content.Content, de
 use Rattle.repo_api.specs.declared.entry.Content.TheVariants as contents
 use Rattle.noderevs.specs.{Heights.IsHeight, Held.{node_at, root_at}, Nodes.{kid_named, kid_of, Kids, Look, mark_of, with_block}, declared.node_rev.Block.Block}
 use Rattle.noderevs.specs.{declared.node_rev.NodeId.NodeId, declared.node_rev.NodeRev.NodeRev, declared.nodes.Nodes.Nodes}
-use Rattle.fsfs_ids.specs.{declared.id.FileId.FileId, declared.representation.Representation.Representation}
+use Rattle.fsfs_text.specs.{declared.id.FileId.FileId, declared.representation.Representation.Representation}
 use Rattle.fsfs_nodes.specs.{declared.entries.DirectoryEntry.DirectoryEntry, declared.node.FileNode.FileNode}
-use Rattle.fsfs_reading.specs.declared.piece.FilePiece.{FilePiece}
+use Rattle.fsfs.specs.declared.piece.FilePiece.{FilePiece}
 use Rattle.filed_trees.specs.Pieces.{RevisionBytes, piece_in, body_at_line, content_in, entries_in, entries_at, entry_named, text_in}
 use Rattle.filed_trees.specs.{Changes.{ChangeRows, changes_in}, Trees.first_id, Tables.{placed_in, placed_of, IsAt, IsFiled, IsPlaced}}
 use Rattle.filed_trees.specs.{declared.table.Table.Table, declared.blocks.ReadRevision.ReadRevision, declared.blocks.Reading.Reading, declared.body.Body.Body}

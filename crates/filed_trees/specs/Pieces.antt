@@ -3,12 +3,11 @@ use Rattle.std.specs.{Prelude.{ℕ, Bool, true, false, ◌==◌, ◌&&◌, List,
 use Rattle.svnpath.specs.{Paths.{Component, PathValue, same_component}, Texts.parsed}
 use Rattle.repo_api.specs.{Properties.PropertyList, declared.entry.Content.Content}
 use Rattle.repo_api.specs.declared.entry.Content.TheVariants as contents
-use Rattle.fsfs_ids.specs.{Maybe.◌>>=◌, declared.id.FileId.FileId, declared.id.IdPart.IdPart, declared.representation.Representation.Representation}
+use Rattle.fsfs_text.specs.{Maybe.◌>>=◌, declared.id.FileId.FileId, declared.id.IdPart.IdPart, declared.representation.Representation.Representation}
 use Rattle.fsfs_nodes.specs.{Entries.entries_of, declared.entries.DirectoryEntry.DirectoryEntry, declared.entries.EntryKind.EntryKind}
-use Rattle.fsfs_nodes.specs.{declared.entries.EntryKind.TheVariants.{File, Directory}, declared.node.FileNode.FileNode}
-use Rattle.fsfs_parts.specs.Bodies.{body_at}
-use Rattle.fsfs_reading.specs.{Pieces.piece_at, declared.piece.FilePiece.FilePiece}
-use Rattle.fsfs_folder.specs.Properties.{properties_of}
+use Rattle.fsfs_nodes.specs.{declared.entries.EntryKind.TheVariants.{File, Directory}, declared.node.FileNode.FileNode, Bodies.body_at}
+use Rattle.fsfs_nodes.specs.Properties.{properties_of}
+use Rattle.fsfs.specs.{Pieces.piece_at, declared.piece.FilePiece.FilePiece}
 
 -- the file of each revision, from revision 0 on
 abbrev pub RevisionBytes : Type 0

@@ -1,8 +1,10 @@
 -- Where a node revision is in the files, as it is kept.
 use Rattle.std.specs.{Prelude.{◌==◌, ℕ, Option, Some, None, if◌then◌else◌}, Arc.arc_value}
-use Rattle.fsfs_ids.specs.{declared.id.FileId.FileId, declared.id.IdPart.IdPart, declared.place.Place.Place, declared.representation.Representation.Representation}
-use Rattle.filed_trees.specs.declared.placed.{Described.Described, Kept.Kept, SmallId.SmallId, SmallLine.SmallLine, SmallNode.SmallNode}
-use Rattle.filed_trees.specs.declared.placed.{SmallPart.SmallPart, Whole.Whole}
+use Rattle.fsfs_text.specs.{declared.id.FileId.FileId, declared.id.IdPart.IdPart, declared.place.Place.Place}
+use Rattle.fsfs_text.specs.declared.representation.Representation.{Representation}
+use Rattle.filed_trees.specs.{declared.placed.Described.Described, declared.placed.Kept.Kept, declared.placed.SmallId.SmallId}
+use Rattle.filed_trees.specs.{declared.placed.SmallLine.SmallLine, declared.placed.SmallNode.SmallNode, declared.placed.SmallPart.SmallPart}
+use Rattle.filed_trees.specs.declared.placed.Whole.{Whole}
 use Rattle.filed_trees.specs.declared.placed.Kept.TheVariants as kinds
 
 -- where a node revision is in the files, and what files alone have of it

@@ -3,14 +3,12 @@ use Rattle.std.specs.Prelude.{◌≡◌, ◌⊎◌, ℕ, true, false, List, Opti
 use Rattle.std.specs.{Prelude.{option_copied, option_map, slice_get}, Arc.arc_value, Borrow.Bor, Result.result_ok}
 use Rattle.svnpath.specs.Paths.{Component}
 use Rattle.repo_api.specs.Trees.{is_directory_content}
-use Rattle.fsfs_lines.specs.declared.fault.FileFault.{FileFault}
-use Rattle.fsfs_ids.specs.{declared.id.FileId.FileId, declared.representation.Representation.Representation}
+use Rattle.fsfs_text.specs.{declared.fault.FileFault.FileFault, declared.id.FileId.FileId, declared.representation.Representation.Representation}
 use Rattle.fsfs_nodes.specs.{Entries.entries_of, declared.entries.DirectoryEntry.DirectoryEntry, declared.entries.EntryKind.EntryKind}
-use Rattle.fsfs_nodes.specs.{declared.entries.EntryKind.TheVariants.{File, Directory}, declared.node.FileNode.FileNode}
-use Rattle.fsfs_parts.specs.declared.change.FileChange.{FileChange}
-use Rattle.fsfs_reading.specs.Pieces as reading
-use Rattle.fsfs_reading.specs.declared.piece.FilePiece.{FilePiece}
-use Rattle.fsfs_folder.specs.Properties.{properties_of}
+use Rattle.fsfs_nodes.specs.{declared.entries.EntryKind.TheVariants.{File, Directory}, declared.node.FileNode.FileNode, declared.change.FileChange.FileChange}
+use Rattle.fsfs_nodes.specs.Properties.{properties_of}
+use Rattle.fsfs.specs.Pieces as reading
+use Rattle.fsfs.specs.declared.piece.FilePiece.{FilePiece}
 use Rattle.repostore.specs.Reading.{IfFileFaulty}
 use Rattle.filed_trees.specs.{Pieces.{RevisionBytes, piece_in, entry_named, path_in}, Changes.changes_by, Trees.first_id}
 use Rattle.filed_trees.specs.{Comparing.{earlier_text, earlier_properties, tables_of}, declared.body.Body.Body}

@@ -1,10 +1,10 @@
 -- The state of a repository that its files stand for.
-use Rattle.std.specs.Prelude.{◌≡◌, ℕ, suc, List, [], ◌∷◌, map, Option, Some, None, option_and_then, length, slice_get, if◌then◌else◌}
-use Rattle.std.specs.{FinMap.{get, entries}, Result.result_ok}
+use Rattle.std.specs.{Prelude.{◌≡◌, ℕ, suc, List, [], ◌∷◌, map, Option, Some, None, option_and_then, length, slice_get, if◌then◌else◌}, FinMap.{get, entries}}
+use Rattle.std.specs.Result.{result_ok}
 use Rattle.svnpath.specs.Paths.{PathValue, same_path}
 use Rattle.repo_api.specs.{Properties.PropertyList, States.{RepoState, Revision}, declared.lock.Lock.Lock}
-use Rattle.fsfs_format.specs.Formats.{format_of}
-use Rattle.fsfs_folder.specs.{Current.current_of, Identity.uuid_of, Locks.locks_of, Properties.properties_of, declared.current.Current.Current}
+use Rattle.fsfs_text.specs.Formats.{format_of}
+use Rattle.fsfs_nodes.specs.{Current.current_of, Identity.uuid_of, Locks.locks_of, Properties.properties_of, declared.current.Current.Current}
 use Rattle.repostore.specs.Files.{Files}
 use Rattle.filed_trees.specs.{Pieces.RevisionBytes, Changes.changes_in, Trees.tree_in}
 

@@ -5,9 +5,9 @@ use Rattle.svnpath.specs.Paths.{Component}
 use Rattle.repo_api.specs.States.{ChangeMap}
 use Rattle.noderevs.specs.{Nodes.{kid_of, mark_of, node_in, root_in}, declared.node_rev.Block.Block, declared.node_rev.NodeId.NodeId}
 use Rattle.noderevs.specs.declared.node_rev.NodeRev.{NodeRev}
-use Rattle.fsfs_ids.specs.{declared.id.FileId.FileId, declared.place.Place.Place}
+use Rattle.fsfs_text.specs.{declared.id.FileId.FileId, declared.place.Place.Place}
 use Rattle.fsfs_nodes.specs.{declared.entries.DirectoryEntry.DirectoryEntry, declared.node.FileNode.FileNode}
-use Rattle.fsfs_reading.specs.declared.piece.FilePiece.{FilePiece}
+use Rattle.fsfs.specs.declared.piece.FilePiece.{FilePiece}
 use Rattle.filed_trees.specs.{Pieces.{RevisionBytes, piece_in, content_in, properties_in, entries_in, entry_named, path_in}, Changes.{changes_in, revision_in}}
 use Rattle.filed_trees.specs.{Trees.own_in, declared.placed.Placed.Placed, declared.table.Table.Table}
 use Rattle.filed_trees.specs.Trees as files_trees

@@ -3,8 +3,8 @@ use Rattle.std.specs.Prelude.{ℕ, zero, suc, ◌==◌, List, [], ◌∷◌, Opt
 use Rattle.svnpath.specs.Paths.{Component, PathValue}
 use Rattle.repo_api.specs.{Trees.Tree, declared.entry.Entry.Entry, declared.entry.Mark.Mark, declared.entry.Mark.TheVariants.Made}
 use Rattle.revision_data.specs.Found.{found}
-use Rattle.fsfs_ids.specs.{Maybe.◌>>=◌, declared.id.FileId.FileId}
-use Rattle.fsfs_reading.specs.declared.piece.FilePiece.{FilePiece}
+use Rattle.fsfs_text.specs.{Maybe.◌>>=◌, declared.id.FileId.FileId}
+use Rattle.fsfs.specs.declared.piece.FilePiece.{FilePiece}
 use Rattle.filed_trees.specs.{Pieces.{RevisionBytes, piece_in, content_in, properties_in, entries_in, entry_named, path_in}, Changes.{revision_in, changes_in}}
 
 -- made in this revision at this path, or else where the predecessor's was made

@@ -3,8 +3,8 @@ use Rattle.std.specs.{Prelude.{◌≡◌, ℕ, List, option_map, slice_get, ◌+
 use Rattle.repo_api.specs.{Histories.Changed, States.ChangeMap}
 use Rattle.noderevs.specs.{Held.{blocks_of, count, node_at, root_at}, Nodes.{node_in, root_in}, declared.node_rev.Block.Block, declared.node_rev.NodeId.NodeId}
 use Rattle.noderevs.specs.declared.nodes.Nodes.{Nodes}
-use Rattle.fsfs_parts.specs.declared.change.FileChange.{FileChange}
-use Rattle.fsfs_reading.specs.{Pieces.revision_of, declared.piece.FilePiece.FilePiece, declared.revision.RevisionFile.RevisionFile}
+use Rattle.fsfs_nodes.specs.declared.change.FileChange.{FileChange}
+use Rattle.fsfs.specs.{Pieces.revision_of, declared.piece.FilePiece.FilePiece, declared.revision.RevisionFile.RevisionFile}
 use Rattle.filed_trees.specs.{Pieces.RevisionBytes, Readable.IsReadableFile, Tables.AreTabled, declared.table.Table.Table, Comparing.AreSame}
 
 -- the nodes of all revisions have the same at the same places, and so have those of the blocks

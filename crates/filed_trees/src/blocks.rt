@@ -6,8 +6,8 @@ ghost use Rattle.repo_api.specs.States.{ChangeMap};
 ghost use Rattle.repo_api.specs.declared.entry.Mark.TheVariants as marks;
 ghost use Rattle.noderevs.specs.{Heights.{AreHigh, IsHeight}, Held.{blocks_of, node_at}, Nodes.{mark_of, with_block}};
 ghost use Rattle.revision_data.specs.Found.{found};
-ghost use Rattle.fsfs_ids.specs.declared.id.FileId.{FileId};
-ghost use Rattle.fsfs_reading.specs.Pieces.{revision_of};
+ghost use Rattle.fsfs_text.specs.declared.id.FileId.{FileId};
+ghost use Rattle.fsfs.specs.Pieces.{revision_of};
 ghost use Rattle.filed_trees.specs.{Pieces.{RevisionBytes, properties_in}, Tables.{AreTabled, HasRows}, Trees.own_from, declared.places.Places.Places};
 ghost use Rattle.filed_trees.specs.Comparing.{AreForAll, AreNew, AreOfLast, AreReadFrom, ForFiles, HasContent, HasEntries, HasText, HaveHeights, IfCame};
 ghost use Rattle.filed_trees.specs.Comparing.{IfLineGives, IsEarlier, IsHere, IsOfLast, IsReadFrom, IsRoot, WasFiled, earlier_own, earlier_text, revision_in};
@@ -21,10 +21,9 @@ use crate::places::{
     Earlier, Places, earlier_id, earlier_properties, earlier_text, find_earlier, node_of,
 };
 use crate::table::{Table, table_of};
-use fsfs_folder::read_properties;
-use fsfs_lines::FileFault;
-use fsfs_nodes::EntryKind;
-use fsfs_reading::{FilePiece, RevisionFile};
+use fsfs::{FilePiece, RevisionFile};
+use fsfs_nodes::{EntryKind, read_properties};
+use fsfs_text::FileFault;
 use noderevs::{Block, Made, NodeId, NodeRev, Nodes};
 use pvec::PVec;
 use repo_api::{Change, Content, FileText, Properties};

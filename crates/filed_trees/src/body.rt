@@ -2,8 +2,7 @@
 ghost use Rattle.std.specs.Prelude.{◌≡◌, IfOk, Decides};
 ghost use Rattle.filed_trees.specs.{Pieces.RevisionBytes, Comparing.{CameWith, IsBody, IsHere}, Readable.{IsKept, IsSaid, ReadsWhere}};
 
-use fsfs_ids::Representation;
-use fsfs_lines::FileFault;
+use fsfs_text::{FileFault, Representation};
 use repo_api::FileText;
 
 /// Says what a line gives: nothing where there is none, what came with it, or what the predecessor's

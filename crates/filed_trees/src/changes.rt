@@ -1,14 +1,13 @@
 //! The changes that a revision's file says.
-ghost use Rattle.std.specs.Prelude.{◌≡◌, true, [], IfOk, Some, IsSome, Decides, option_copied, option_map};
-ghost use Rattle.std.specs.{List.Sorted.IsStrictlySortedBy, Map.keys_of, Ordering.is_lt, Result.result_ok};
+ghost use Rattle.std.specs.{Prelude.{◌≡◌, true, [], IfOk, Some, IsSome, Decides, option_copied, option_map}, List.Sorted.IsStrictlySortedBy, Map.keys_of};
+ghost use Rattle.std.specs.{Ordering.is_lt, Result.result_ok};
 ghost use Rattle.svnpath.specs.{Paths.path_cmp, Texts.parsed};
 ghost use Rattle.revision_data.specs.Found.{found};
 ghost use Rattle.filed_trees.specs.{Changes.{action_in, source_in, change_in, changes_by, with_lines, with_rows}, Readable.{Judges, Reads}};
 
 use byte_string::ByteString;
-use fsfs_ids::Place;
-use fsfs_lines::FileFault;
-use fsfs_parts::{FileAction, FileChange};
+use fsfs_nodes::{FileAction, FileChange};
+use fsfs_text::{FileFault, Place};
 use repo_api::{Action, Change, Source};
 use std::alloc::Global;
 use std::cmp::Ordering;

@@ -2,8 +2,8 @@
 ghost use Rattle.filed_trees.specs.Readable.{Judges};
 ghost use Rattle.std.specs.Prelude.{◌≡◌, true};
 
-use fsfs_lines::FileFault;
-use next_blocks::are_same_properties;
+use block_rules::are_same_properties;
+use fsfs_text::FileFault;
 use repo_api::Properties;
 use std::alloc::Global;
 

@@ -1,22 +1,22 @@
 //! The entries of a directory, read from a file.
 ghost use Rattle.std.specs.{List.Sorted.IsStrictlySortedBy, Ordering.is_lt};
+ghost use Rattle.std.specs.{Prelude.{◌≡◌, ◌⊎◌, map, Decides, Option, Some, All, Contains, IsSome, IsSomeAnd, IfOk, if◌then◌else◌}, Arc.arc_value};
+ghost use Rattle.std.specs.Result.{result_ok};
 ghost use Rattle.shared_map.specs.{Entries.by_bytes, Rows.row_entries};
-ghost use Rattle.std.specs.{Prelude.{◌≡◌, ◌⊎◌, map, Decides, Option, Some, All, Contains, IsSome, IsSomeAnd, IfOk, if◌then◌else◌}, Arc.arc_value, Result.result_ok};
 ghost use Rattle.svnpath.specs.Paths.{Component, same_component};
 ghost use Rattle.repo_api.specs.Trees.{is_directory_content};
 ghost use Rattle.noderevs.specs.{Nodes.kid_named, declared.node_rev.NodeId.NodeId};
-ghost use Rattle.fsfs_ids.specs.declared.representation.Representation.{Representation};
+ghost use Rattle.fsfs_text.specs.declared.representation.Representation.{Representation};
 ghost use Rattle.filed_trees.specs.{Pieces.{RevisionBytes, body_at_line}, Tables.IsAt};
-ghost use Rattle.filed_trees.specs.{Comparing.{AreAt, AreNamed, AreNodesOf, HasEntries, WasFiled, earlier_text, id_at, tables_of}, declared.places.Places.Places};
-ghost use Rattle.filed_trees.specs.Readable.{AreEntries, IsOfKind, IsTabled, Judges, ReadsWhere};
+ghost use Rattle.filed_trees.specs.Comparing.{AreAt, AreNamed, AreNodesOf, HasEntries, WasFiled, earlier_text, id_at, tables_of};
+ghost use Rattle.filed_trees.specs.{declared.places.Places.Places, Readable.{AreEntries, IsOfKind, IsTabled, Judges, ReadsWhere}};
 ghost use Rattle.fsfs_nodes.specs.{Entries.entries_of, declared.entries.EntryKind.TheVariants.Directory};
 
 use crate::kids::ids_by_name;
 use crate::places::{Earlier, Places, is_placed, node_of};
 use byte_string::ByteString;
-use fsfs_ids::FileId;
-use fsfs_lines::FileFault;
 use fsfs_nodes::{DirectoryEntry, read_entries};
+use fsfs_text::{FileFault, FileId};
 use noderevs::{NodeId, NodeRev};
 use repo_api::Content;
 use shared_map::SharedMap;

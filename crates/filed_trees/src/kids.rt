@@ -5,9 +5,8 @@ ghost use Rattle.noderevs.specs.Nodes.{kid_of};
 ghost use Rattle.filed_trees.specs.{Pieces.entry_named, Comparing.id_at, Readable.{AreOnce, ReadsWhere}};
 
 use byte_string::ByteString;
-use fsfs_ids::FileId;
-use fsfs_lines::FileFault;
 use fsfs_nodes::DirectoryEntry;
+use fsfs_text::{FileFault, FileId};
 use noderevs::{NodeId, NodeRev};
 use std::alloc::{AllocError, Global};
 use std::collections::BTreeMap;

@@ -4,7 +4,7 @@ ghost use Rattle.svnpath.specs.Paths.{PathValue};
 ghost use Rattle.repo_api.specs.{Histories.Changed, States.{ChangeMap, RepoState, Revision}};
 ghost use Rattle.noderevs.specs.{Heights.AreHigh, Held.{count, node_at}, Nodes.{node_in, root_in, with_block}, Views.shared_tree};
 ghost use Rattle.noderevs.specs.{declared.node_rev.Block.Block, declared.nodes.Nodes.Nodes};
-ghost use Rattle.next_blocks.specs.Rules.{IsNextRevision, past_of};
+ghost use Rattle.block_rules.specs.Rules.{IsNextRevision, past_of};
 ghost use Rattle.repostore.specs.Files.{Files};
 ghost use Rattle.filed_trees.specs.{Pieces.RevisionBytes, Trees.tree_in, Tables.AreTabled, StandsFor.{StandsFor, IsRevision}};
 ghost use Rattle.filed_trees.specs.{Values.{AreSameNext, AreSameRevisions}, declared.table.Table.Table};

@@ -2,7 +2,7 @@
 ghost use Rattle.std.specs.{Prelude.{◌≡◌, IfOk, IfSome, Some}, Arc.arc_value};
 ghost use Rattle.filed_trees.specs.Placing.{PlacedValue, line_in, placed_value, small_value, unpacked_id, unpacked_part};
 
-use fsfs_ids::{FileId, IdPart, Place, Representation};
+use fsfs_text::{FileId, IdPart, Place, Representation};
 use std::alloc::{AllocError, Global};
 use std::marker::Model;
 use std::sync::Arc;

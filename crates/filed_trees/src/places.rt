@@ -5,8 +5,7 @@ ghost use Rattle.filed_trees.specs.{Readable.{Finds, FindsOne, IsTabled, Judges}
 
 use crate::placed::Placed;
 use crate::table::Table;
-use fsfs_ids::{FileId, Representation};
-use fsfs_lines::FileFault;
+use fsfs_text::{FileFault, FileId, Representation};
 use noderevs::{NodeId, NodeRev, Nodes};
 use pvec::PVec;
 

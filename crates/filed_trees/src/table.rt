@@ -4,9 +4,9 @@ ghost use Rattle.filed_trees.specs.Tables.{placed_of};
 
 use crate::placed::Placed;
 use byte_string::ByteString;
-use fsfs_ids::{FileId, Place};
+use fsfs::FilePiece;
 use fsfs_nodes::FileNode;
-use fsfs_reading::FilePiece;
+use fsfs_text::{FileId, Place};
 use pvec::PVec;
 use std::alloc::{AllocError, Global};
 use std::sync::Arc;

@@ -3,10 +3,10 @@ use Rattle.std.proofs.Common.{◌≡◌, ◌+◌, ◌<◌, ◌≤◌, ℕ, List,
 use Rattle.std.proofs.lemmas.List.{at_drop_more, at_drop_all, flat_map_more, map-append, reverse-append}
 use Rattle.std.specs.Prelude.{option_and_then}
 use Rattle.noderevs.specs.declared.node_rev.NodeRev.{NodeRev}
-use Rattle.fsfs_ids.specs.declared.id.FileId.{FileId}
+use Rattle.fsfs_text.specs.declared.id.FileId.{FileId}
 use Rattle.fsfs_nodes.specs.declared.node.FileNode.{FileNode}
 use Rattle.filed_trees.specs.{Tables.placed_of, declared.placed.Placed.Placed}
-use Rattle.fsfs_writing.specs.Files.{Piece, piece_bytes, pieces_bytes}
+use Rattle.fsfs.specs.Files.{Piece, piece_bytes, pieces_bytes}
 use Rattle.filed_writing.specs.{declared.copies.CopyRoot.CopyRoot, declared.copies.Origin.Origin, declared.revision.Revision.Revision}
 use Rattle.filed_writing.specs.{Drafts.{comes_of, copy_from}, Layout.{WritesNode, content_of, node_here, nodes_of, piece_of, pieces_of, with_piece}}
 use Rattle.filed_writing.specs.Pieces.{Brings, Comes, Copy, ids_of, rows_of}

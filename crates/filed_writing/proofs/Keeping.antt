@@ -1,13 +1,13 @@
 -- What the changes and the nodes of a revision keep, one after the other.
-use Rattle.std.proofs.Common.{◌≡◌, ◌<◌, ℕ, Some, None, true, false, ap}
+use Rattle.std.proofs.{Common.{◌≡◌, ◌<◌, ℕ, Some, None, true, false, ap}, lemmas.List.Elements.All-contains}
 use Rattle.std.specs.Prelude.{All, Contains, IfSome, is_some, if◌then◌else◌}
-use Rattle.std.proofs.lemmas.List.Elements.{All-contains}
 use Rattle.repo_api.specs.Histories.{Changed}
 use Rattle.repo_api.specs.declared.entry.Mark.TheVariants as mark
 use Rattle.revision_data.specs.Found.{found}
 use Rattle.noderevs.specs.{Nodes.mark_of, declared.node_rev.NodeRev.NodeRev}
 use Rattle.filed_trees.specs.declared.placed.Placed.{Placed}
-use Rattle.filed_writing.specs.{Blocks.{AreRightChanges, ChangeIsRight, SourcesAreEarlier, own_from, right_own}, Layout.made_from, declared.revision.Revision.Revision}
+use Rattle.filed_writing.specs.{Blocks.{AreRightChanges, ChangeIsRight, SourcesAreEarlier, own_from, right_own}, Layout.made_from}
+use Rattle.filed_writing.specs.declared.revision.Revision.{Revision}
 
 -- a change of revision n is right, and what it copied is of an earlier one
 abbrev pub Keeps : ℕ → Changed → Type 0

@@ -1,12 +1,11 @@
 -- The nodes of a revision from a place on, and what comes of them.
-use Rattle.std.proofs.Common.{◌≡◌, ◌+◌, ◌-◌, ◌<◌, ◌≤◌, ℕ, List, [], ◌∷◌, ◌++◌, Option, Some, None, All, get_or, map, drop, take, length, refl, ap, sym, subst, ⊎_elim, arith, ◌∙◌}
-use Rattle.std.proofs.lemmas.List.{append_assoc, drop_all, drop_more, length_push, map-append, take_all}
-use Rattle.std.proofs.lemmas.List.Elements.{All-contains, All-more}
-use Rattle.std.proofs.lemmas.Option.{get_or_from_slice_get, none-some, slice_get_cases, slice_get_within}
+use Rattle.std.proofs.Common.{◌≡◌, ◌+◌, ◌-◌, ◌<◌, ◌≤◌, ℕ, List, [], ◌∷◌, ◌++◌, Option, Some, None, All, get_or, map, drop, take, length, refl, ap, sym, subst}
+use Rattle.std.proofs.{Common.{⊎_elim, arith, ◌∙◌}, lemmas.List.{append_assoc, drop_all, drop_more, length_push, map-append, take_all}}
+use Rattle.std.proofs.{lemmas.List.Elements.{All-contains, All-more}, lemmas.Option.{get_or_from_slice_get, none-some, slice_get_cases, slice_get_within}}
 use Rattle.std.specs.Prelude.{Contains, option_and_then, slice_get}
 use Rattle.noderevs.specs.{declared.node_rev.Block.Block, declared.node_rev.NodeRev.NodeRev}
-use Rattle.filed_writing.specs.{declared.copies.Origin.Origin, declared.counter.Counter.Counter, declared.revision.Revision.Revision}
-use Rattle.filed_writing.specs.{Blocks.IsRightHere, Drafts.comes_of, Layout.{all_come, comes, next_after, next_after_all, node_here, nodes_in, nodes_of}, Pieces.Comes}
+use Rattle.filed_writing.specs.{declared.copies.Origin.Origin, declared.counter.Counter.Counter, declared.revision.Revision.Revision, Blocks.IsRightHere}
+use Rattle.filed_writing.specs.{Drafts.comes_of, Layout.{all_come, comes, next_after, next_after_all, node_here, nodes_in, nodes_of}, Pieces.Comes}
 
 in_block : (o : Option Block) (k : ℕ) → slice_get (nodes_in o) k ≡ option_and_then (λ b. slice_get b.nodes.items k) o
 in_block None k = refl

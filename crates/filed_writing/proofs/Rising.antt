@@ -1,8 +1,7 @@
 -- Names that rise by their bytes, and what each of a list's changes keeps.
-use Rattle.std.proofs.Common.{◌≡◌, ℕ, List, [], ◌∷◌, Option, Some, None}
-use Rattle.std.specs.{Cmp.Lexicographic.slice_cmp, List.{AllByRecursion, cons_option}, List.Sorted.IsStrictlySortedBy, Map.keys_of, Ordering.nat_cmp, Prelude.IfSome}
-use Rattle.std.specs.declared.cmp.Ordering.TheVariants.{Less}
-use Rattle.std.proofs.lemmas.{Cmp.nat_list_cmp_total, Map.Keys.{sorted_head, sorted_tail}}
+use Rattle.std.proofs.{Common.{◌≡◌, ℕ, List, [], ◌∷◌, Option, Some, None}, lemmas.Cmp.nat_list_cmp_total, lemmas.Map.Keys.{sorted_head, sorted_tail}}
+use Rattle.std.specs.{Cmp.Lexicographic.slice_cmp, List.{AllByRecursion, cons_option}, List.Sorted.IsStrictlySortedBy, Map.keys_of, Ordering.nat_cmp}
+use Rattle.std.specs.{Prelude.IfSome, declared.cmp.Ordering.TheVariants.Less}
 use Rattle.repo_api.specs.Properties.{PropertyList}
 
 abbrev pub Rises : Option (List ℕ) → PropertyList → Type 0

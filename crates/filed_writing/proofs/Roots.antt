@@ -1,6 +1,6 @@
 -- The copies of node revisions, the last first.
-use Rattle.std.proofs.Common.{◌≡◌, ◌+◌, ◌-◌, ◌<◌, ◌≤◌, ℕ, Bool, List, [], ◌∷◌, ◌++◌, Option, Some, None, map, reverse, drop, get_or, length, refl, ap, sym, subst, arith, ⊎_elim, ◌∙◌}
-use Rattle.std.proofs.lemmas.Bool.{cases_lt, le-ltb, lt-ltb}
+use Rattle.std.proofs.Common.{◌≡◌, ◌+◌, ◌-◌, ◌<◌, ◌≤◌, ℕ, Bool, List, [], ◌∷◌, ◌++◌, Option, Some, None, map, reverse, drop, get_or, length, refl, ap, sym}
+use Rattle.std.proofs.{Common.{subst, arith, ⊎_elim, ◌∙◌}, lemmas.Bool.{cases_lt, le-ltb, lt-ltb}}
 use Rattle.std.proofs.lemmas.List.{at_drop_all, at_drop_more, get_or-reverse, length-reverse, map-append, reverse-append}
 use Rattle.std.proofs.lemmas.Option.{slice_get-get_or, slice_get_past}
 use Rattle.std.specs.{Borrow.Bor, Prelude.{if◌then◌else◌, option_and_then, option_copied, slice_get}, Slice.IsItemAt}

@@ -1,12 +1,12 @@
 -- What has to be known of the nodes and the changes of a revision for its file to say them. All of
 -- it can be decided from the nodes in memory.
-use Rattle.std.specs.Prelude.{◌≡◌, ◌<◌, true, List, Option, Some, None, Contains, IfSome, is_some, if◌then◌else◌}
-use Rattle.std.specs.{Arc.arc_value, Cmp.Lexicographic.slice_cmp, List.list_all, List.Sorted.IsStrictlySortedBy, Map.keys_of, Ordering.nat_cmp}
+use Rattle.std.specs.{Prelude.{◌≡◌, ◌<◌, true, List, Option, Some, None, Contains, IfSome, is_some, if◌then◌else◌}, Arc.arc_value, Cmp.Lexicographic.slice_cmp}
+use Rattle.std.specs.{List.list_all, List.Sorted.IsStrictlySortedBy, Map.keys_of, Ordering.nat_cmp}
 use Rattle.svnpath.specs.Components.{IsRightPath}
 use Rattle.repo_api.specs.{Histories.Changed, Properties.PropertyList, declared.entry.Mark.Mark, declared.entry.Mark.TheVariants.Made}
 use Rattle.revision_data.specs.Found.{found}
 use Rattle.noderevs.specs.{Nodes.mark_of, declared.node_rev.NodeRev.NodeRev}
-use Rattle.fsfs_folder.specs.Properties.{is_property}
+use Rattle.fsfs_nodes.specs.Properties.{is_property}
 use Rattle.filed_trees.specs.declared.placed.Placed.{Placed}
 use Rattle.filed_writing.specs.{Layout.{made_from, nodes_of}, declared.revision.Revision.Revision}
 

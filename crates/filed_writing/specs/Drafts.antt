@@ -2,10 +2,9 @@
 use Rattle.std.specs.{Prelude.{ℕ, List, Vec, option_map}, declared.alloc.Global.Global}
 use Rattle.repo_api.specs.declared.change.Source.{Source}
 use Rattle.noderevs.specs.declared.node_rev.NodeRev.{NodeRev}
-use Rattle.fsfs_ids.specs.declared.id.IdPart.{IdPart}
+use Rattle.fsfs_text.specs.declared.id.IdPart.{IdPart}
 use Rattle.filed_trees.specs.declared.placed.Placed.{Placed}
-use Rattle.filed_writing.specs.Pieces.{Comes, Copy}
-use Rattle.filed_writing.specs.{declared.copies.CopyRoot.CopyRoot, declared.copies.NewCopy.NewCopy, declared.copies.Origin.Origin}
+use Rattle.filed_writing.specs.{Pieces.{Comes, Copy}, declared.copies.CopyRoot.CopyRoot, declared.copies.NewCopy.NewCopy, declared.copies.Origin.Origin}
 use Rattle.filed_writing.specs.declared.copies.Predecessor.{Predecessor}
 
 abbrev pub came_from : Predecessor → NodeRev × Placed

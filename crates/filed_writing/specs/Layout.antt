@@ -1,20 +1,22 @@
 -- What the file of a revision has, by its nodes, its changes and the tables of the revisions before it.
-use Rattle.std.specs.{Prelude.{◌≡◌, ◌==◌, nat_lt, ℕ, ◌+◌, ◌-◌, ◌||◌, Bool, List, [], ◌∷◌, ◌++◌, length, take, Option, Some, None, option_map, option_and_then, slice_get, if◌then◌else◌}, Arc.arc_value}
-use Rattle.std.specs.FinMap.{entries}
+use Rattle.std.specs.Prelude.{◌≡◌, ◌==◌, nat_lt, ℕ, ◌+◌, ◌-◌, ◌||◌, Bool, List, [], ◌∷◌, ◌++◌, length, take, Option, Some, None, option_map, option_and_then}
+use Rattle.std.specs.{Prelude.{slice_get, if◌then◌else◌}, Arc.arc_value, FinMap.entries}
 use Rattle.svnpath.specs.{Listings.listing, Paths.{Component, PathValue}, Texts.path_text}
-use Rattle.repo_api.specs.{declared.change.Action.Action, declared.change.Action.TheVariants.{Add, Delete, Replace, Modify}}
-use Rattle.repo_api.specs.{declared.change.Change.Change, declared.change.Source.Source, declared.entry.Content.Content}
+use Rattle.repo_api.specs.{declared.change.Action.Action, declared.change.Action.TheVariants.{Add, Delete, Replace, Modify}, declared.change.Change.Change}
+use Rattle.repo_api.specs.{declared.change.Source.Source, declared.entry.Content.Content}
 use Rattle.repo_api.specs.declared.entry.Content.TheVariants as contents
 use Rattle.revision_data.specs.Found.{found}
-use Rattle.noderevs.specs.{Held.{blocks_of, node_at, root_at}, Views.find_id, declared.node_rev.Block.Block, declared.node_rev.NodeId.NodeId, declared.node_rev.NodeRev.NodeRev}
-use Rattle.fsfs_folder.specs.declared.current.NextIds.{NextIds}
-use Rattle.fsfs_ids.specs.{declared.id.FileId.FileId, declared.id.IdPart.IdPart}
-use Rattle.fsfs_nodes.specs.{declared.entries.DirectoryEntry.DirectoryEntry, declared.node.FileNode.FileNode}
-use Rattle.fsfs_parts.specs.declared.change.FileChange.{FileChange}
-use Rattle.fsfs_writing.specs.Files.{Piece, file_bytes, pieces_bytes}
+use Rattle.noderevs.specs.{Held.{blocks_of, node_at, root_at}, Views.find_id, declared.node_rev.Block.Block, declared.node_rev.NodeId.NodeId}
+use Rattle.noderevs.specs.declared.node_rev.NodeRev.{NodeRev}
+use Rattle.fsfs_nodes.specs.{declared.current.NextIds.NextIds, declared.entries.DirectoryEntry.DirectoryEntry, declared.node.FileNode.FileNode}
+use Rattle.fsfs_nodes.specs.declared.change.FileChange.{FileChange}
+use Rattle.fsfs_text.specs.{declared.id.FileId.FileId, declared.id.IdPart.IdPart}
+use Rattle.fsfs.specs.Files.{Piece, file_bytes, pieces_bytes}
 use Rattle.filed_trees.specs.{Tables.placed_in, declared.placed.Placed.Placed}
-use Rattle.filed_writing.specs.{Origins.{deleted_at, predecessor_of}, declared.counter.Counter.Counter, declared.revision.Revision.Revision}
-use Rattle.filed_writing.specs.Pieces.{Before, Brings, Comes, Copy, Writes, after_copy, after_node, all_some, any_new, begins, brings, copied, copy_before, copyroot_line, count_of, counted, counter_in, dump_in, entry_with, file_change, ids_after, ids_of, is_file, kind_of, later_copy, node_of, piece_by, properties_of, rows_of, source_place, text_of_before, with_both}
+use Rattle.filed_writing.specs.{Origins.{deleted_at, predecessor_of}, declared.counter.Counter.Counter, declared.revision.Revision.Revision, Pieces.Before}
+use Rattle.filed_writing.specs.Pieces.{Brings, Comes, Copy, Writes, after_copy, after_node, all_some, any_new, begins, brings, copied, copy_before}
+use Rattle.filed_writing.specs.Pieces.{copyroot_line, count_of, counted, counter_in, dump_in, entry_with, file_change, ids_after, ids_of, is_file, kind_of}
+use Rattle.filed_writing.specs.Pieces.{later_copy, node_of, piece_by, properties_of, rows_of, source_place, text_of_before, with_both}
 
 -- ---- what is known of a node
 

@@ -1,20 +1,18 @@
 -- The parts of a revision file, by what they are made of.
-use Rattle.std.specs.{Prelude.{◌≡◌, ◌==◌, ℕ, zero, suc, ◌+◌, ◌-◌, ◌^◌, min, nat_lt, ◌&&◌, ◌||◌, Bool, true, false, List, [], ◌∷◌, ◌++◌, map, Option, Some, None, option_map, option_and_then, if◌then◌else◌}, Arc.arc_value}
-use Rattle.std.specs.{Cmp.Lexicographic.pointwise}
+use Rattle.std.specs.Prelude.{◌≡◌, ◌==◌, ℕ, zero, suc, ◌+◌, ◌-◌, ◌^◌, min, nat_lt, ◌&&◌, ◌||◌, Bool, true, false, List, [], ◌∷◌, ◌++◌, map, Option, Some, None}
+use Rattle.std.specs.{Prelude.{option_map, option_and_then, if◌then◌else◌}, Arc.arc_value, Cmp.Lexicographic.pointwise}
 use Rattle.svnpath.specs.{Paths.{Component, PathValue}, Texts.path_text}
 use Rattle.repo_api.specs.{Properties.PropertyList, declared.change.Action.Action, declared.change.Action.TheVariants.{Add, Delete, Replace, Modify}}
 use Rattle.repo_api.specs.{declared.change.Change.Change, declared.change.Source.Source, declared.entry.Content.Content}
 use Rattle.repo_api.specs.declared.entry.Content.TheVariants as contents
 use Rattle.noderevs.specs.{declared.node_rev.NodeId.NodeId, declared.node_rev.NodeRev.NodeRev}
-use Rattle.fsfs_folder.specs.{Properties.properties_bytes, declared.current.NextIds.NextIds}
-use Rattle.fsfs_dumps.specs.Dumps.{dump}
-use Rattle.fsfs_ids.specs.{Ids.id_text, declared.id.FileId.FileId, declared.id.IdPart.IdPart, declared.place.Place.Place}
-use Rattle.fsfs_ids.specs.declared.representation.Representation.{Representation}
-use Rattle.fsfs_nodes.specs.{Entries.entry_pairs, declared.entries.DirectoryEntry.DirectoryEntry, declared.entries.EntryKind.EntryKind}
-use Rattle.fsfs_nodes.specs.{declared.entries.EntryKind.TheVariants.{File, Directory}, declared.node.FileNode.FileNode}
-use Rattle.fsfs_parts.specs.{declared.change.FileAction.FileAction, declared.change.FileChange.FileChange}
-use Rattle.fsfs_parts.specs.declared.change.FileAction.TheVariants as actions
-use Rattle.fsfs_writing.specs.Files.{Piece, piece_bytes, placed_node}
+use Rattle.fsfs_nodes.specs.{Properties.properties_bytes, declared.current.NextIds.NextIds, Entries.entry_pairs, declared.entries.DirectoryEntry.DirectoryEntry}
+use Rattle.fsfs_nodes.specs.{declared.entries.EntryKind.EntryKind, declared.entries.EntryKind.TheVariants.{File, Directory}, declared.node.FileNode.FileNode}
+use Rattle.fsfs_nodes.specs.{declared.change.FileAction.FileAction, declared.change.FileChange.FileChange}
+use Rattle.fsfs_text.specs.{Dumps.dump, Ids.id_text, declared.id.FileId.FileId, declared.id.IdPart.IdPart, declared.place.Place.Place}
+use Rattle.fsfs_text.specs.declared.representation.Representation.{Representation}
+use Rattle.fsfs_nodes.specs.declared.change.FileAction.TheVariants as actions
+use Rattle.fsfs.specs.Files.{Piece, piece_bytes, placed_node}
 use Rattle.filed_trees.specs.{Tables.placed_of, declared.placed.Placed.Placed}
 use Rattle.filed_writing.specs.declared.counter.Counter.{Counter}
 

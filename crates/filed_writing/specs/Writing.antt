@@ -1,6 +1,6 @@
 -- What the writer gives.
 use Rattle.std.specs.Prelude.{◌≡◌, Option, Some}
-use Rattle.fsfs_folder.specs.declared.current.NextIds.{NextIds}
+use Rattle.fsfs_nodes.specs.declared.current.NextIds.{NextIds}
 use Rattle.filed_writing.specs.{Blocks.{IsRightBlock, SourcesAreEarlier}, Layout.{IsLaidOut, rows_here}, declared.revision.Revision.Revision}
 use Rattle.filed_writing.specs.declared.writing.Written.{Written}
 

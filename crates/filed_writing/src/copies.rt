@@ -1,10 +1,13 @@
 //! The ids that node revisions get: of their nodes, and of the copies that they are of.
-ghost use Rattle.std.specs.{Prelude.{◌≡◌, ◌≤◌, ◌-◌, Contains, Decides, IfOk, length, map, option_and_then, option_copied, option_map, reverse}, List.Sorted.IsStrictlySortedBy, Map.keys_of};
+ghost use Rattle.std.specs.Prelude.{◌≡◌, ◌≤◌, ◌-◌, Contains, Decides, IfOk, length, map, option_and_then, option_copied, option_map, reverse};
+ghost use Rattle.std.specs.{List.Sorted.IsStrictlySortedBy, Map.keys_of};
 ghost use Rattle.svnpath.specs.Paths.{path_cmp};
 ghost use Rattle.revision_data.specs.Found.{found};
 ghost use Rattle.noderevs.specs.{Held.node_at, declared.node_rev.NodeRev.NodeRev};
 ghost use Rattle.filed_trees.specs.Tables.{placed_in};
-ghost use Rattle.filed_writing.specs.{Blocks.IsRightHere, Drafts.{came_from, comes_of, copy_from}, Layout.{all_come, comes, copies_of, copy_of, known_from, made_from, next_after, next_after_all, nodes_of, place_above}, Pieces.{begins, copied, with_both}, Trails.{IsTrail, IsWay}};
+ghost use Rattle.filed_writing.specs.{Blocks.IsRightHere, Drafts.{came_from, comes_of, copy_from}};
+ghost use Rattle.filed_writing.specs.Layout.{all_come, comes, copies_of, copy_of, known_from, made_from, next_after, next_after_all, nodes_of, place_above};
+ghost use Rattle.filed_writing.specs.{Pieces.{begins, copied, with_both}, Trails.{IsTrail, IsWay}};
 
 use crate::counter::{Counter, taken};
 use crate::revision::{Revision, puts};
@@ -13,7 +16,7 @@ use crate::text::text_of;
 use crate::trail::Trail;
 use crate::way::Way;
 use filed_trees::Placed;
-use fsfs_ids::{IdPart, Place};
+use fsfs_text::{IdPart, Place};
 use noderevs::{NodeId, NodeRev};
 use repo_api::{Change, Source};
 use std::alloc::{AllocError, Global};

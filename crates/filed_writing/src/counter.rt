@@ -2,8 +2,8 @@
 ghost use Rattle.std.specs.Prelude.{◌≡◌};
 ghost use Rattle.filed_writing.specs.Pieces.{counted, counter_in, ids_after, next_number};
 
-use fsfs_folder::NextIds;
-use fsfs_ids::IdPart;
+use fsfs_nodes::NextIds;
+use fsfs_text::IdPart;
 
 /// Says which node id and which copy id come next, and in which revision they are counted, if not over all of them.
 #[derive(Clone, Copy)]

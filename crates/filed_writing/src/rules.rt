@@ -1,6 +1,6 @@
 //! The rules that the nodes and the changes of a revision keep, so that what its file says is read again.
-ghost use Rattle.std.specs.{Prelude.{◌≡◌, ◌<◌, Decides, IfSome, is_some, option_copied, option_map}, Arc.arc_value, List.Sorted.IsStrictlySortedBy, Map.keys_of};
-ghost use Rattle.std.specs.{Cmp.Lexicographic.slice_cmp, Ordering.nat_cmp, declared.cmp.Ordering.TheVariants.Less};
+ghost use Rattle.std.specs.{Prelude.{◌≡◌, ◌<◌, Decides, IfSome, is_some, option_copied, option_map}, Arc.arc_value, List.Sorted.IsStrictlySortedBy};
+ghost use Rattle.std.specs.{Map.keys_of, Cmp.Lexicographic.slice_cmp, Ordering.nat_cmp, declared.cmp.Ordering.TheVariants.Less};
 ghost use Rattle.svnpath.specs.Components.{IsComponent, IsRightPath};
 ghost use Rattle.revision_data.specs.Found.{found};
 ghost use Rattle.noderevs.specs.Nodes.{mark_of};
@@ -10,7 +10,7 @@ ghost use Rattle.filed_writing.specs.{Blocks.{AreRightChanges, ChangeIsRight, Pr
 use crate::copies::Predecessor;
 use crate::revision::Revision;
 use byte_string::ByteString;
-use fsfs_folder::are_properties;
+use fsfs_nodes::are_properties;
 use noderevs::{Made, NodeRev};
 use repo_api::{Change, Properties, Source};
 use std::cmp::Ordering;

@@ -5,8 +5,8 @@ ghost use Rattle.noderevs.specs.{Held.node_at, Nodes.kid_at, declared.node_rev.N
 ghost use Rattle.filed_writing.specs.{Trails.{IsWay, Keeps, here_at}, declared.revision.Revision.Revision};
 
 use crate::revision::Revision;
+use block_rules::shared_length;
 use byte_string::ByteString;
-use next_blocks::shared_length;
 use noderevs::{NodeId, Nodes};
 use std::alloc::{AllocError, Global};
 

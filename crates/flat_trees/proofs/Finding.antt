@@ -1,6 +1,6 @@
 -- A key that passes a test, where one does.
 use Rattle.std.proofs.Common.{◌≡◌, Bool, true, false, cond, ◌||◌, is_some, List, [], ◌∷◌, Option, Some, None, refl, sym, ap, subst, ◌∙◌}
-use Rattle.std.proofs.lemmas.{Bool.false≢true, List.Folds.list_any-append}
+use Rattle.std.proofs.{lemmas.Bool.false≢true, lemmas.List.Folds.list_any-append}
 use Rattle.std.specs.{List.{find, list_any}, Map.keys_of, FinMap.{FinMap, keys, from_entries}, Prelude.{Result, Ok, Err, IfOk}}
 use Rattle.svnpath.specs.Paths.{path_cmp, PathValue}
 use Rattle.repo_api.specs.{MergedMaps.IsConflict, States.TreeMap}

@@ -2,7 +2,11 @@
 #![tactic(auto)]
 
 mod edits;
+mod flat;
 mod flat_repo;
+mod in_memory;
 mod repository;
+mod shared;
 
 pub use flat_repo::FlatRepo;
+pub use in_memory::InMemory;

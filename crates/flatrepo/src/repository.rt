@@ -1,8 +1,8 @@
 //! The repository and its transactions.
 ghost use Rattle.std.specs.Prelude.{◌≡◌, ◌≤◌, List, ℕ, IfOk, OnOk, OnErr};
 ghost use Rattle.dates.specs.{Dates.IsDateText, declared.TheConstants.LAST_MOMENT};
-ghost use Rattle.repo_api.specs.{Commits.{IsConflictOf, IsRefusedAt}, Kinds.{created_at, kind_at}, Locking.{refusing_path, with_lock}};
-ghost use Rattle.repo_api.specs.{Opening.new_repository, RevisionProperties.{property_refusal, with_changed_property}, RightEdits.IsRightEdit};
+ghost use Rattle.repo_api.specs.{Commits.{IsConflictOf, IsRefusedAt}, Kinds.{created_at, kind_at}, Locking.{refusing_path, with_lock}, Opening.new_repository};
+ghost use Rattle.repo_api.specs.{RevisionProperties.{property_refusal, with_changed_property}, RightEdits.IsRightEdit};
 ghost use Rattle.repo_api.specs.States.{EditsTxn, IsBeginning, Notes, tree_of, trees_in, youngest};
 ghost use Rattle.flat_commits.specs.{Contents.{flat_state, revisions_of}, Whole.{state_of, txn_state_of}};
 ghost use Rattle.flatrepo.specs.{Edits.EditsTree, Whole.repo_content};

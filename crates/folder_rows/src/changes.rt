@@ -2,7 +2,7 @@
 ghost use Rattle.store_files.specs.Folders.{Folder, IsSame};
 
 use byte_string::ByteString;
-use filed_opening::{FolderRepository, create, open};
+use filed_repository::{FolderRepository, create, open};
 use repo_api::{ChangeFault, PreviousValue, PropertyAsk, Repository};
 use std::alloc::{AllocError, Global};
 use std::test::Fail;

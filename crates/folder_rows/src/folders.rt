@@ -1,7 +1,7 @@
 ghost use Rattle.std.specs.Prelude.{◌≡◌, ◌⊎◌};
 
-use filed_opening::{create, open};
-use fsfs_lines::FileFault;
+use filed_repository::{create, open};
+use fsfs_text::FileFault;
 use repo_api::Repository;
 use std::alloc::Global;
 use std::test::Fail;

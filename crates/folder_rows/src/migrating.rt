@@ -1,7 +1,7 @@
 //! Folders of format 2 that are copied in format 3.
 use crate::folders::{DATE, EMPTY, FILE, THREE, TWO, UUID, folder, has};
-use filed_opening::{check_free, copy_repository, judged, open};
-use fsfs_lines::FileFault;
+use filed_repository::{check_free, copy_repository, judged, open};
+use fsfs_text::FileFault;
 use repo_api::Repository;
 use repository_creation::Progress;
 use std::alloc::Global;

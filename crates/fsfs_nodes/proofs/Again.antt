@@ -3,14 +3,12 @@ use Rattle.std.proofs.Common.{◌≡◌, ℕ, zero, suc, ◌-◌, ◌^◌, ◌<�
 use Rattle.std.proofs.{Common.{Result, Ok, Err, refl, sym, ap, ◌∙◌, append_assoc, arith, lit≤, lit<}, lemmas.Bool.{eq-eqb, le-ltb}}
 use Rattle.std.proofs.lemmas.List.{length-append, drop_at}
 use Rattle.std.specs.{Prelude.{codes, option_map, if◌then◌else◌, IfSome}, List.flat_map, Cmp.Lexicographic.pointwise}
-use Rattle.fsfs_lines.specs.{declared.fault.FileFault.FileFault, declared.fault.FileFault.TheVariants.Dangling, Numerals.numeral, Reading.{or_bad, ◌>>=◌}}
-use Rattle.fsfs_lines.specs.Splits.{is_free, line_at, line_of, split_once}
-use Rattle.fsfs_lines.proofs.{Splits.{split_again, prefix_again, same_bytes}, Numbers.number_again}
-use Rattle.fsfs_ids.specs.{Ids.{id_text, id_of}, Representations.{representation_text, representation_of}, Places.{place_text, place_of}}
-use Rattle.fsfs_ids.specs.{Fits.{IdFits, RepresentationFits}, declared.id.FileId.FileId, declared.representation.Representation.Representation}
-use Rattle.fsfs_ids.specs.declared.place.Place.{Place}
-use Rattle.fsfs_ids.proofs.Again.{free-cons, free-join, feed_apart, decimal_free, id_free, id_again, representation_free, representation_again, place_free}
-use Rattle.fsfs_ids.proofs.Again.{place_again}
+use Rattle.fsfs_text.specs.{declared.fault.FileFault.FileFault, declared.fault.FileFault.TheVariants.Dangling, Numerals.numeral, Reading.{or_bad, ◌>>=◌}}
+use Rattle.fsfs_text.specs.{Splits.{is_free, line_at, line_of, split_once}, Ids.{id_text, id_of}, Representations.{representation_text, representation_of}}
+use Rattle.fsfs_text.specs.{Places.{place_text, place_of}, Fits.{IdFits, RepresentationFits}, declared.id.FileId.FileId}
+use Rattle.fsfs_text.specs.{declared.representation.Representation.Representation, declared.place.Place.Place}
+use Rattle.fsfs_text.proofs.{Splits.{split_again, prefix_again, same_bytes}, Numbers.number_again, IdsAgain.{free-cons, free-join, feed_apart, decimal_free}}
+use Rattle.fsfs_text.proofs.IdsAgain.{id_free, id_again, representation_free, representation_again, place_free, place_again}
 use Rattle.fsfs_nodes.specs.{declared.entries.EntryKind.EntryKind, declared.entries.EntryKind.TheVariants.{File, Directory}, declared.node.FileNode.FileNode}
 use Rattle.fsfs_nodes.specs.Headers.{Line, line_bytes, optional_line, name_value, named, with_name, before, with_others, block_within, block_of, value_of}
 use Rattle.fsfs_nodes.specs.Headers.{optional, there, field}

@@ -1,10 +1,8 @@
 -- Reading one after the other, as a loop does.
 use Rattle.std.proofs.Common.{◌≡◌, ℕ, suc, ◌-◌, ◌+◌, ◌≤◌, ◌<◌, List, [], ◌∷◌, ◌++◌, length, drop, get_or, Option, Some, None, Result, Ok, Err, refl, sym, ap}
 use Rattle.std.proofs.{Common.{◌∙◌, append_assoc, arith}, lemmas.List.{append-nil, drop_more}}
-use Rattle.fsfs_lines.specs.{declared.fault.FileFault.FileFault, declared.fault.FileFault.TheVariants.{Truncated, BadLine}, Reading.{or_bad, ◌>>=◌}}
-use Rattle.fsfs_lines.specs.Splits.{line_at}
-use Rattle.fsfs_dumps.specs.declared.pair.DumpPair.{DumpPair}
-use Rattle.fsfs_ids.specs.declared.id.FileId.{FileId}
+use Rattle.fsfs_text.specs.{declared.fault.FileFault.FileFault, declared.fault.FileFault.TheVariants.{Truncated, BadLine}, Reading.{or_bad, ◌>>=◌}}
+use Rattle.fsfs_text.specs.{Splits.line_at, declared.pair.DumpPair.DumpPair, declared.id.FileId.FileId}
 use Rattle.fsfs_nodes.specs.{declared.entries.EntryKind.EntryKind, declared.entries.DirectoryEntry.DirectoryEntry}
 use Rattle.fsfs_nodes.specs.Headers.{Line, name_value, before, with_others, block_within}
 use Rattle.fsfs_nodes.specs.Entries as entries

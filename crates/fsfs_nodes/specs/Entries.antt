@@ -1,8 +1,7 @@
 -- The entries of a directory.
 use Rattle.std.specs.Prelude.{ℕ, List, [], ◌∷◌, ◌++◌, map, Option, Some, None, Result, Ok, Err}
-use Rattle.fsfs_lines.specs.{declared.fault.FileFault.FileFault, declared.fault.FileFault.TheVariants.BadLine, Reading.◌>>=◌, Splits.split_once}
-use Rattle.fsfs_dumps.specs.{declared.pair.DumpPair.DumpPair, Reading.dump_of}
-use Rattle.fsfs_ids.specs.{Ids.{id_text, id_of}, declared.id.FileId.FileId}
+use Rattle.fsfs_text.specs.{declared.fault.FileFault.FileFault, declared.fault.FileFault.TheVariants.BadLine, Reading.◌>>=◌, Splits.split_once}
+use Rattle.fsfs_text.specs.{declared.pair.DumpPair.DumpPair, DumpReading.dump_of, Ids.{id_text, id_of}, declared.id.FileId.FileId}
 use Rattle.fsfs_nodes.specs.{Nodes.{kind_text, kind_of}, declared.entries.EntryKind.EntryKind, declared.entries.DirectoryEntry.DirectoryEntry}
 
 -- `<kind> <id>`

@@ -1,7 +1,6 @@
 -- What the lines of a node revision can say.
 use Rattle.std.specs.Prelude.{◌≡◌, ◌<◌, ◌^◌, true, IfSome}
-use Rattle.fsfs_lines.specs.Splits.{is_free}
-use Rattle.fsfs_ids.specs.{Fits.{IdFits, RepresentationFits}, declared.place.Place.Place}
+use Rattle.fsfs_text.specs.{Splits.is_free, Fits.{IdFits, RepresentationFits}, declared.place.Place.Place}
 use Rattle.fsfs_nodes.specs.declared.node.FileNode.{FileNode}
 
 -- a path without line feeds

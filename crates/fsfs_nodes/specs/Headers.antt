@@ -1,8 +1,8 @@
 -- The lines of a node revision.
 use Rattle.std.specs.Prelude.{ℕ, zero, suc, ◌==◌, List, [], ◌∷◌, ◌++◌, length, map, codes, Option, Some, None, Result, Ok, Err, if◌then◌else◌}
 use Rattle.std.specs.Cmp.Lexicographic.{pointwise}
-use Rattle.fsfs_lines.specs.{declared.fault.FileFault.FileFault, declared.fault.FileFault.TheVariants.{Truncated, BadLine}, Reading.{or_bad, ◌>>=◌}}
-use Rattle.fsfs_lines.specs.Splits.{is_free, line_at, split_once, without_prefix}
+use Rattle.fsfs_text.specs.{declared.fault.FileFault.FileFault, declared.fault.FileFault.TheVariants.{Truncated, BadLine}, Reading.{or_bad, ◌>>=◌}}
+use Rattle.fsfs_text.specs.Splits.{is_free, line_at, split_once, without_prefix}
 use Rattle.fsfs_nodes.specs.declared.header.HeaderLine.{HeaderLine}
 
 -- a name and its value

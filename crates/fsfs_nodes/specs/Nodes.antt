@@ -1,10 +1,9 @@
 -- Node revisions, as lines.
 use Rattle.std.specs.Prelude.{ℕ, ◌-◌, ◌^◌, ◌==◌, ◌&&◌, nat_lt, List, [], ◌∷◌, ◌++◌, length, drop, codes, Option, Some, None, option_map, Result, Ok, Err}
 use Rattle.std.specs.{Prelude.if◌then◌else◌, Cmp.Lexicographic.pointwise}
-use Rattle.fsfs_lines.specs.{declared.fault.FileFault.FileFault, declared.fault.FileFault.TheVariants.Dangling, Numerals.{decimal_of, numeral}, Reading.◌>>=◌}
-use Rattle.fsfs_lines.specs.Splits.{split_once, without_prefix}
-use Rattle.fsfs_ids.specs.{Ids.{id_text, id_of}, Representations.{representation_text, representation_of}, Places.{place_text, place_of}}
-use Rattle.fsfs_ids.specs.declared.id.FileId.{FileId}
+use Rattle.fsfs_text.specs.{declared.fault.FileFault.FileFault, declared.fault.FileFault.TheVariants.Dangling, Numerals.{decimal_of, numeral}, Reading.◌>>=◌}
+use Rattle.fsfs_text.specs.{Splits.{split_once, without_prefix}, Ids.{id_text, id_of}, Representations.{representation_text, representation_of}}
+use Rattle.fsfs_text.specs.{Places.{place_text, place_of}, declared.id.FileId.FileId}
 use Rattle.fsfs_nodes.specs.{Headers.{Line, line_bytes, optional_line, block_of, value_of, optional, field}, declared.entries.EntryKind.EntryKind}
 use Rattle.fsfs_nodes.specs.{declared.entries.EntryKind.TheVariants.{File, Directory}, declared.node.FileNode.FileNode}
 

@@ -1,13 +1,12 @@
 //! The entries of a directory.
 ghost use Rattle.std.specs.Prelude.{◌≡◌, ◌++◌, OnOk, IfOk};
-ghost use Rattle.fsfs_dumps.specs.Dumps.{dump};
-ghost use Rattle.fsfs_lines.specs.Reading.{Answers};
+ghost use Rattle.fsfs_text.specs.{Dumps.dump, Reading.Answers};
 ghost use Rattle.fsfs_nodes.specs.{Nodes.{kind_text, kind_of}, Entries.{entry_text, entry_pairs, kind_and_id, entries_of}};
 
 use byte_string::ByteString;
-use fsfs_dumps::{append_end, append_pair, read_dump};
-use fsfs_ids::{FileId, append_id, parse_id};
-use fsfs_lines::{FileFault, split_once};
+use fsfs_text::{
+    FileFault, FileId, append_end, append_id, append_pair, parse_id, read_dump, split_once,
+};
 use std::alloc::{AllocError, Global};
 
 /// Says what a node revision is.

@@ -1,11 +1,12 @@
 //! The lines of a node revision.
 ghost use Rattle.std.specs.Prelude.{◌≡◌, option_map};
-ghost use Rattle.fsfs_lines.specs.{Reading.{Answers, Gives, or_bad}, Splits.is_free};
+ghost use Rattle.fsfs_text.specs.{Reading.{Answers, Gives, or_bad}, Splits.is_free, Ids.id_of, Representations.representation_of, Places.place_of};
 ghost use Rattle.fsfs_nodes.specs.Headers.{line_pair, line_pairs, name_value, value_of, block_of, optional};
-ghost use Rattle.fsfs_ids.specs.{Ids.id_of, Representations.representation_of, Places.place_of};
 
-use fsfs_ids::{FileId, Place, Representation, parse_id, parse_place, parse_representation};
-use fsfs_lines::{FileFault, line_at, split_once, without_prefix};
+use fsfs_text::{
+    FileFault, FileId, Place, Representation, line_at, parse_id, parse_place, parse_representation,
+    split_once, without_prefix,
+};
 use std::alloc::Global;
 
 /// Holds the two parts of a line `name: value`.

@@ -1,19 +1,18 @@
 //! Node revisions, as lines.
 ghost use Rattle.std.specs.Prelude.{◌≡◌, ◌++◌, OnOk, Option, option_map, codes};
-ghost use Rattle.fsfs_lines.specs.{Numerals.numeral, Reading.{Answers, Gives}};
+ghost use Rattle.fsfs_text.specs.{Numerals.numeral, Reading.{Answers, Gives}, Ids.id_text, Representations.representation_text, Places.place_text};
 ghost use Rattle.fsfs_nodes.specs.{Headers.{line_bytes, optional_line, line_pairs, value_of, field}, Nodes.{kind_text, kind_of, count_of, path_of}};
 ghost use Rattle.fsfs_nodes.specs.Nodes.{identity_lines, content_lines, origin_lines, node_bytes, id_line, own_id, node_of, node_at};
-ghost use Rattle.fsfs_ids.specs.{Ids.id_text, Representations.representation_text, Places.place_text};
 
 use crate::entries::{EntryKind, append_kind, parse_kind};
 use crate::header::{
     HeaderLine, needed, optional_id, optional_place, optional_representation, read_block,
 };
 use byte_string::ByteString;
-use fsfs_ids::{
-    FileId, Place, Representation, append_id, append_place, append_representation, parse_id,
+use fsfs_text::{
+    FileFault, FileId, Place, Representation, append_id, append_number, append_place,
+    append_representation, parse_decimal, parse_id, split_once, without_prefix,
 };
-use fsfs_lines::{FileFault, append_number, parse_decimal, split_once, without_prefix};
 use std::alloc::{AllocError, Global};
 
 /// Holds a node revision as its lines say it. Without a `copyroot` line it is its own copy root.

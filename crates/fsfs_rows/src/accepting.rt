@@ -1,7 +1,7 @@
 //! The revisions that the format's page has as bytes, and one more by its rules.
 use byte_string::ByteString;
 use filed_trees::{Table, tabulated};
-use fsfs_lines::FileFault;
+use fsfs_text::FileFault;
 use noderevs::{NodeId, Nodes};
 use pvec::PVec;
 use repo_api::{Action, Change, Content, FileText};

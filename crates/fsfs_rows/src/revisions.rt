@@ -1,7 +1,6 @@
-use fsfs_lines::FileFault;
-use fsfs_nodes::EntryKind;
-use fsfs_parts::{FileAction, FileChange};
-use fsfs_reading::{FilePiece, RevisionFile, read_revision};
+use fsfs::{FilePiece, RevisionFile, read_revision};
+use fsfs_nodes::{EntryKind, FileAction, FileChange};
+use fsfs_text::FileFault;
 use std::alloc::Global;
 use std::test::Fail;
 

@@ -1,7 +1,6 @@
 //! The small files of a folder, by the rules of both formats and by Subversion's folders.
-use fsfs_folder::{Current, NextIds, append_current, read_current};
-use fsfs_format::{Format, Layout, append_format, read_format};
-use fsfs_lines::FileFault;
+use fsfs_nodes::{Current, NextIds, append_current, read_current};
+use fsfs_text::{FileFault, Format, Layout, append_format, read_format};
 use std::alloc::Global;
 use std::test::Fail;
 

@@ -5,7 +5,7 @@ use crate::accepting::{
 };
 use filed_trees::{Table, tabulated};
 use filed_writing::{Written, write_revision};
-use fsfs_folder::NextIds;
+use fsfs_nodes::NextIds;
 use noderevs::Nodes;
 use pvec::PVec;
 use repo_api::{Action, Change, Content, FileText};

@@ -1,11 +1,8 @@
 -- How long a client may send nothing. Moments and times are in milliseconds.
 use Rattle.std.specs.Prelude.{◌-◌, ℕ, Bool, true, false, ◌&&◌, ◌||◌, not, nat_le, nat_lt, length, List, if◌then◌else◌, Option, Some, None}
 use Rattle.std.specs.List.{filter, list_all}
-use Rattle.guests.specs.declared.awaited.Awaited.{Awaited}
-use Rattle.guests.specs.declared.awaited.Awaited.TheVariants.{Login, Command, Report, Edit, Nothing}
-use Rattle.guests.specs.declared.guest.Guest.{Guest}
-use Rattle.guests.specs.declared.silence.Ending.{Ending}
-use Rattle.guests.specs.declared.silence.Ending.TheVariants.{NoLogin, Silent, GivesPlace}
+use Rattle.guests.specs.{declared.awaited.Awaited.Awaited, declared.awaited.Awaited.TheVariants.{Login, Command, Report, Edit, Nothing}}
+use Rattle.guests.specs.{declared.guest.Guest.Guest, declared.silence.Ending.Ending, declared.silence.Ending.TheVariants.{NoLogin, Silent, GivesPlace}}
 
 -- whether what is awaited belongs to a login
 abbrev pub is_of_login : Awaited → Bool

@@ -1,12 +1,15 @@
 -- Lines of what is beneath a place: where nothing beneath was made, they go back as its own does.
-use Rattle.std.proofs.Common.{◌≡◌, ◌≤◌, ◌<◌, ◌⊎◌, inl, inr, ℕ, Bool, true, false, ◌&&◌, ◌||◌, not, arith, get_or, List, [], ◌∷◌, ◌++◌, length, drop, reverse, Option, Some, None, refl, sym, ap, ◌∙◌, subst}
-use Rattle.std.proofs.{lemmas.Bool.{false≢true, and_from, and_parts}, lemmas.List.append_assoc, lemmas.List.Elements.{All-head, All-tail}}
-use Rattle.std.specs.{List.{All, find, list_any}, Prelude.{◌==◌, ◌-◌, if◌then◌else◌}, Ordering.nat_cmp, BTreeMap.is_at, Cmp.Lexicographic.{slice_cmp, texts_ties}}
-use Rattle.svnpath.specs.{PathLaws.{rest_append, same_component_is, same_component_refl, under_append, under_is}, Paths.{Component, is_at_or_under, PathValue, same_component}}
+use Rattle.std.proofs.Common.{◌≡◌, ◌≤◌, ◌<◌, ◌⊎◌, inl, inr, ℕ, Bool, true, false, ◌&&◌, ◌||◌, not, arith, get_or, List, [], ◌∷◌, ◌++◌, length, drop, reverse}
+use Rattle.std.proofs.{Common.{Option, Some, None, refl, sym, ap, ◌∙◌, subst}, lemmas.Bool.{false≢true, and_from, and_parts}, lemmas.List.append_assoc}
+use Rattle.std.proofs.lemmas.List.Elements.{All-head, All-tail}
+use Rattle.std.specs.{List.{All, find, list_any}, Prelude.{◌==◌, ◌-◌, if◌then◌else◌}, Ordering.nat_cmp, BTreeMap.is_at}
+use Rattle.std.specs.Cmp.Lexicographic.{slice_cmp, texts_ties}
+use Rattle.svnpath.specs.PathLaws.{rest_append, same_component_is, same_component_refl, under_append, under_is}
+use Rattle.svnpath.specs.Paths.{Component, is_at_or_under, PathValue, same_component}
 use Rattle.repo_api.specs.{Histories.{Changed, History, IsQuietSince}, Readings.is_name_among}
 use Rattle.traces.specs.{Traces.{decides, earlier, makes, place_before, place_by, source_place, trace_below}, declared.place.Place.Place}
-use Rattle.traces.specs.declared.place.Place.{Place}
-use Rattle.history.specs.{Logs.place_at, Lines.{AreOneLineBeneath, AreOneLineBeside, AreTheseTwo, is_beside, is_one_line, line_start, makes_beside, place_beneath, same_place}}
+use Rattle.history.specs.Logs.{place_at}
+use Rattle.history.specs.Lines.{AreOneLineBeneath, AreOneLineBeside, AreTheseTwo, is_beside, is_one_line, line_start, makes_beside, place_beneath, same_place}
 use Rattle.history.proofs.{Ends.{is_same, line_goes_on, line_since, same_place_is}, Passing.{each_fails, reversed}, Steps.{trace_is, trace_passes}}
 
 -- ---- paths

@@ -6,7 +6,7 @@ use borrow.Author.Tests.{eqb-true}
 use Rattle.svnpath.specs.Paths.{PathValue}
 use Rattle.repo_api.specs.Histories.{History}
 use Rattle.history.proofs.Steps.{ends_at, goes_on_to}
-use Rattle.history.specs.{Gathered.{GoesOn, IsNoted, path_known}}
+use Rattle.history.specs.Gathered.{GoesOn, IsNoted, path_known}
 use Rattle.traces.specs.{Traces.{trace, traced}, declared.place.Place.Place}
 
 pub goes_through : (h : History) (r : ℕ) (a b c : Option Place) → GoesOn h a r b → GoesOn h b r c → GoesOn h a r c

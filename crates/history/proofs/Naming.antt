@@ -1,12 +1,11 @@
 -- Paths that are named more than once.
-use Rattle.std.proofs.Common.{◌≡◌, ◌<◌, ◌+◌, ℕ, Bool, true, false, ◌||◌, List, [], ◌∷◌, ◌++◌, length, take, get_or, map, refl, sym, ap, ◌∙◌}
-use Rattle.std.proofs.{Common.cond, lemmas.Bool.false≢true, lemmas.List.Elements.filter_agree, lemmas.List.Folds.{list_any_more, list_any-append}}
+use Rattle.std.proofs.Common.{◌≡◌, ◌<◌, ◌+◌, ℕ, Bool, true, false, ◌||◌, List, [], ◌∷◌, ◌++◌, length, take, get_or, map, refl, sym, ap, ◌∙◌, cond}
+use Rattle.std.proofs.{lemmas.Bool.false≢true, lemmas.List.Elements.filter_agree, lemmas.List.Folds.{list_any_more, list_any-append}}
 use Rattle.std.specs.{BTreeMap.is_at, List.list_any, Prelude.filter}
 use Rattle.svnpath.specs.{PathLaws.{at_is_same, same_path_is}, Paths.{path_cmp, PathValue, same_path}}
 use Rattle.repo_api.specs.Histories.{History}
 use Rattle.history.specs.{Logs.{AreSameNamed, is_among, is_of_log, listed, newest_asked, or_root, place_at}, declared.log_ask.LogAsk.LogAsk}
-use Rattle.traces.specs.Traces.{trace}
-use Rattle.traces.specs.declared.place.Place.{Place}
+use Rattle.traces.specs.{Traces.trace, declared.place.Place.Place}
 
 -- the root stands for no path in both
 or_root_same : (named paths : List PathValue) → AreSameNamed named paths → AreSameNamed (or_root named) (or_root paths)

@@ -7,8 +7,8 @@ use Rattle.svnpath.specs.{PathLaws.same_path_is, Paths.{PathValue, same_path}}
 use Rattle.repo_api.specs.{Dates.is_dated, Histories.history_of, Kinds.kind_at, States.{RepoState, youngest}, declared.entry.NodeKind.NodeKind}
 use Rattle.repo_api.specs.declared.entry.NodeKind.TheVariants as kinds
 use Rattle.traces.specs.{Traces.trace, declared.place.Place.Place}
-use Rattle.history.specs.{Logs.place_at, Locations.{path_in, location, location_back, location_on, only_same, if_present}}
-use Rattle.history.specs.{Dates.{greatest, dated_rev}, Laws.{AreOnTraces, IsGreatestDated}}
+use Rattle.history.specs.{Logs.place_at, Locations.{path_in, location, location_back, location_on, only_same, if_present}, Dates.{greatest, dated_rev}}
+use Rattle.history.specs.Laws.{AreOnTraces, IsGreatestDated}
 
 -- the place at a path that a list of places has in a revision
 path_is_there : (n : ℕ) (p : PathValue) (places : List Place) → path_in n places ≡ Some p → Contains places (place_at n p)

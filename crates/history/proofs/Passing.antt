@@ -1,6 +1,7 @@
 -- Revisions in which nothing happens to a place are passed over.
 use Rattle.std.proofs.Common.{◌≡◌, ◌≤◌, ◌<◌, ◌-◌, ℕ, zero, suc, Bool, true, false, List, [], ◌∷◌, ◌++◌, Some, None, arith, refl, sym, ap, ◌∙◌, reverse, max}
-use Rattle.std.proofs.{lemmas.Bool.false≢true, lemmas.List.reverse-append, lemmas.List.Elements.{All-nil, All-cons, All-head, All-tail, All-same, All-push, All-weaker, All-contains_itself}}
+use Rattle.std.proofs.{lemmas.Bool.false≢true, lemmas.List.reverse-append}
+use Rattle.std.proofs.lemmas.List.Elements.{All-nil, All-cons, All-head, All-tail, All-same, All-push, All-weaker, All-contains_itself}
 use Rattle.std.proofs.lemmas.List.Folds.{list_any_none}
 use Rattle.std.specs.{List.{All, Contains, find, list_any}, Prelude.{if◌then◌else◌, nat_le, ◌==◌, ◌&&◌, ◌||◌}}
 use borrow.Author.Tests.{eqb-true, eqb-false}

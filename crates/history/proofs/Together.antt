@@ -2,8 +2,7 @@
 use Rattle.std.proofs.Common.{Result, Ok, Err, ◌≡◌, ◌<◌, ℕ, Bool, true, false, cond, List, [], ◌∷◌, ◌++◌, Option, Some, None, arith, refl, sym, ap, ◌∙◌, subst}
 use Rattle.std.proofs.{lemmas.Bool.{false≢true, and_parts}, lemmas.List.Elements.{All-nil, All-cons, All-head, All-tail}, lemmas.Option.same_Some}
 use Rattle.std.specs.{BTreeMap.is_at, Cmp.unsigned_tied, List.All, Ordering.{nat_cmp, is_eq, ordering_then}, Prelude.{◌==◌, ◌&&◌, OnOk, is_some}}
-use Rattle.std.specs.declared.cmp.Ordering.{Ordering}
-use Rattle.std.specs.declared.cmp.Ordering.TheVariants.{Less, Equal, Greater}
+use Rattle.std.specs.{declared.cmp.Ordering.Ordering, declared.cmp.Ordering.TheVariants.{Less, Equal, Greater}}
 use borrow.Author.Tests.{eqb-true}
 use Rattle.svnpath.specs.{PathLaws.{at_is_same, same_path_is}, Paths.{PathValue, path_cmp, same_path}}
 use Rattle.repo_api.specs.Histories.{History}

@@ -1,12 +1,9 @@
 -- What is known of the paths of a place, once its trace was gone along.
-use Rattle.std.specs.Prelude.{◌≡◌, ◌≤◌, ℕ, false, List, Option, Some, ◌==◌, if◌then◌else◌}
-use Rattle.std.specs.{BTreeMap.is_at, Map.lookup, Ordering.nat_cmp}
+use Rattle.std.specs.{Prelude.{◌≡◌, ◌≤◌, ℕ, false, List, Option, Some, ◌==◌, if◌then◌else◌}, BTreeMap.is_at, Map.lookup, Ordering.nat_cmp}
 use Rattle.svnpath.specs.Paths.{PathValue}
 use Rattle.repo_api.specs.Histories.{History}
-use Rattle.history.specs.{Locations.{location_back, location_on, path_in}}
-use Rattle.traces.specs.Traces.{traced}
-use Rattle.history.specs.{declared.gathering.Known.Known}
-use Rattle.traces.specs.declared.place.Place.{Place}
+use Rattle.history.specs.{Locations.{location_back, location_on, path_in}, declared.gathering.Known.Known}
+use Rattle.traces.specs.{Traces.traced, declared.place.Place.Place}
 
 -- the path in a revision of a trace that goes on from a place, or not
 abbrev pub path_from : History → Option Place → ℕ → Option PathValue

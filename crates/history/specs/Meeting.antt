@@ -1,10 +1,8 @@
 -- Traces of one path that are gone along together.
-use Rattle.std.specs.Prelude.{◌≡◌, ℕ, List, Option, Some, All}
-use Rattle.std.specs.{BTreeMap.is_at, Map.lookup, Ordering.{nat_cmp, ordering_then}, declared.cmp.Ordering.Ordering}
+use Rattle.std.specs.{Prelude.{◌≡◌, ℕ, List, Option, Some, All}, BTreeMap.is_at, Map.lookup, Ordering.{nat_cmp, ordering_then}, declared.cmp.Ordering.Ordering}
 use Rattle.svnpath.specs.Paths.{PathValue, path_cmp}
 use Rattle.repo_api.specs.Histories.{History}
-use Rattle.history.specs.{Gathered.{path_from, path_known}, Locations.{location_back, location_on}, Logs.place_at}
-use Rattle.history.specs.declared.meeting.Meeting.{Meeting}
+use Rattle.history.specs.{Gathered.{path_from, path_known}, Locations.{location_back, location_on}, Logs.place_at, declared.meeting.Meeting.Meeting}
 use Rattle.traces.specs.declared.place.Place.{Place}
 
 -- a trace that goes on from here has, in the place's revision, the path of the one that begins at the

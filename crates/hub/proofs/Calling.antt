@@ -3,14 +3,14 @@ use Rattle.std.proofs.Common.{◌≡◌, ℕ, ◌+◌, List, [], ◌∷◌, ◌+
 use Rattle.repo_api.specs.States.{IsBeginning}
 use Rattle.wire_replies.specs.declared.reply.Reply.{Reply}
 use Rattle.machine.specs.{Stages.SessionState, declared.env.Env.Env}
-use Rattle.hub_runs.specs.{Laws.KeepsConstants, Runs.{ends_of, Event, HubRun, HubStep, with_rest}, Runs.Event.{Connects, Drops}}
-use Rattle.hub_runs.specs.State.{HasTrees, HubState, session_of, updated}
-use Rattle.hub.specs.{Calls.{CallStep, CallRun, BeginsCalls}, declared.hub.HubFault.TheVariants.{NoSession, NoMemory, Halted, Full}, declared.calls.Call.Call}
+use Rattle.hub.specs.{Laws.KeepsConstants, Runs.{ends_of, Event, HubRun, HubStep, with_rest}, Runs.Event.{Connects, Drops}}
+use Rattle.hub.specs.{State.{HasTrees, HubState, session_of, updated}, Calls.{CallStep, CallRun, BeginsCalls}}
+use Rattle.hub.specs.{declared.hub.HubFault.TheVariants.{NoSession, NoMemory, Halted, Full}, declared.calls.Call.Call}
 use Rattle.hub.specs.{declared.calls.Call.TheVariants.{Connect, Feed, Disconnect}, declared.calls.Outcome.Outcome}
 use Rattle.hub.specs.declared.calls.Outcome.TheVariants.{Connected, Wrote, Dropped, Failed}
-use Rattle.hub_runs.proofs.{Everywhere.HasTrees-with_rest, Staying.{OnlyAccepted, none_accepted, accepted_on, run_accepted, keeps_revisions, same_constants}}
-use Rattle.hub_runs.proofs.Staying.{constants_on, run_constants, StaysClosed, none_closed, closed_on, run_closed}
-use Rattle.hub_runs.proofs.Failing.{AreCounted, none_counted, counted_on, run_counted, StaysHalted, none_halted, halted_on, run_halted}
+use Rattle.hub.proofs.{Everywhere.HasTrees-with_rest, Staying.{OnlyAccepted, none_accepted, accepted_on, run_accepted, keeps_revisions, same_constants}}
+use Rattle.hub.proofs.Staying.{constants_on, run_constants, StaysClosed, none_closed, closed_on, run_closed}
+use Rattle.hub.proofs.Failing.{AreCounted, none_counted, counted_on, run_counted, StaysHalted, none_halted, halted_on, run_halted}
 
 abbrev pub with_sessions : HubState → List (ℕ × SessionState) → HubState
 with_sessions h sessions = record h { sessions = sessions }

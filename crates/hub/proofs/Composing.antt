@@ -9,10 +9,9 @@ use Rattle.machine.specs.{Answers.Verdict.{NotWritten, Unknown, Written}, Hearin
 use Rattle.machine.specs.{Stages.{is_open, SessionState, Stage}, Steps.{AddsAll, EffectAt, Leaves as LeavesAt, SessionRun, StepAt, Stores}}
 use Rattle.machine.specs.declared.env.Env.{Env}
 use Rattle.machine.specs.declared.phase.Phase.TheVariants.{Greeted, LoggingIn, Challenged, Serving, Editing, Skipping, Reporting, Driven, Ended}
-use Rattle.hub_runs.specs.{Runs.{answered, CommitLeaves, ends_of, Event, HubRun, HubStep, InputHappens, InputsAre}, Runs.Event.{Drops, Hears, Leaves}}
-use Rattle.hub_runs.specs.{SessionLaws.{session_of-updated, session_of-without}, State.{hub_at, HubState, kept, session_of, updated, without}}
-use Rattle.hub_runs.proofs.{Effects.or_false, Failing.or_true}
-use Rattle.hub.proofs.Places.{updated_same, without_none, kept_kept, kept_ended, without-kept}
+use Rattle.hub.specs.{Runs.{answered, CommitLeaves, ends_of, Event, HubRun, HubStep, InputHappens, InputsAre}, Runs.Event.{Drops, Hears, Leaves}}
+use Rattle.hub.specs.{SessionLaws.{session_of-updated, session_of-without}, State.{hub_at, HubState, kept, session_of, updated, without}}
+use Rattle.hub.proofs.{Effects.or_false, Failing.or_true, Places.{updated_same, without_none, kept_kept, kept_ended, without-kept}}
 
 abbrev pub events_of : ℕ → List Input → List Event
 events_of n inputs = map (Hears n) inputs

@@ -6,12 +6,12 @@ use Rattle.wire_replies.specs.Replies.{print}
 use Rattle.wire_replies.proofs.Parts.{part_first}
 use Rattle.access.specs.Points.{AccessRules, content_of, Point}
 use Rattle.machine.specs.{Hearing.HasNoMore, Settings.Settings, Stages.{is_open, SessionState, StandsOn}, Steps.{FeedLost, FeedWritten}, declared.env.Env.Env}
-use Rattle.hub_runs.specs.Runs.{BreaksOff, ends_of, Feeds, HubRun, IfOpen, with_rest}
-use Rattle.hub_runs.specs.SessionLaws.{kept-updated, session_of-updated, session_of-without, without-updated}
-use Rattle.hub_runs.specs.State.{AllOpen, Finds, HasTrees, hub_at, HubState, kept, session_of, updated, without}
+use Rattle.hub.specs.Runs.{BreaksOff, ends_of, Feeds, HubRun, IfOpen, with_rest}
+use Rattle.hub.specs.SessionLaws.{kept-updated, session_of-updated, session_of-without, without-updated}
+use Rattle.hub.specs.State.{AllOpen, Finds, HasTrees, hub_at, HubState, kept, session_of, updated, without}
 use Rattle.hub.proofs.Places.{without-kept, settled, kept_ended}
 use Rattle.hub.proofs.Composing.{StandsAlone, AddsOwn, holds_open, holds_kept, events_of, inputs_are, composed, ends, runs_on}
-use Rattle.hub_runs.proofs.Everywhere.{AllOpen-at, AllOpen-kept, HasTrees-at, HasTrees-kept}
+use Rattle.hub.proofs.Everywhere.{AllOpen-at, AllOpen-kept, HasTrees-at, HasTrees-kept}
 
 if_open : (xs : List (ℕ × SessionState)) (n : ℕ) (session s' : SessionState) (rest : List ℕ) → session_of xs n ≡ Some session
     → (is_open s'.phase ≡ true → HasNoMore rest) → IfOpen (session_of (kept xs n s') n) rest

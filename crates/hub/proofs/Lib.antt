@@ -5,3 +5,11 @@ pub mod Calling
 pub mod Owning
 pub mod Respecting
 pub mod Sinks
+pub mod Running
+pub mod Revising
+pub mod Effects
+pub mod Everywhere
+pub mod Acting
+pub mod Staying
+pub mod Failing
+pub mod Trees

@@ -6,12 +6,12 @@ use Rattle.repo_api.specs.{Accepted.{Accepted, changed, changed_all}, Accepted.A
 use Rattle.repo_api.specs.{Marks.{MeetWell, own_of, shown}, Merge.is_changed, States.{RepoState, tree_at, tree_of, trees_in, TxnState, youngest}}
 use Rattle.wire_replies.specs.declared.reply.Reply.{Reply}
 use Rattle.machine.specs.{Soundness.MeetBy, Stages.SessionState, declared.env.Env.Env}
-use Rattle.hub_runs.specs.{Done.{GoesOnBy, HasDone, HaveDone}, Laws.AllKeepSides, Runs.{ends_of, Event, HubRun, HubStep, with_rest}}
-use Rattle.hub_runs.specs.{Runs.Event.{Connects, Drops}, State.{HasTrees, HubState, session_of, updated}}
-use Rattle.hub.specs.{Calls.{CallStep, CallRun}, CallLaws.{CallHasDone, CallsHaveDone}, declared.hub.HubFault.TheVariants.{NoSession, NoMemory, Halted, Full}}
-use Rattle.hub.specs.{declared.calls.Call.Call, declared.calls.Call.TheVariants.{Connect, Feed, Disconnect}, declared.calls.Outcome.Outcome}
+use Rattle.hub.specs.{Done.{GoesOnBy, HasDone, HaveDone}, Laws.AllKeepSides, Runs.{ends_of, Event, HubRun, HubStep, with_rest}, Runs.Event.{Connects, Drops}}
+use Rattle.hub.specs.{State.{HasTrees, HubState, session_of, updated}, Calls.{CallStep, CallRun}, CallLaws.{CallHasDone, CallsHaveDone}}
+use Rattle.hub.specs.{declared.hub.HubFault.TheVariants.{NoSession, NoMemory, Halted, Full}, declared.calls.Call.Call}
+use Rattle.hub.specs.{declared.calls.Call.TheVariants.{Connect, Feed, Disconnect}, declared.calls.Outcome.Outcome}
 use Rattle.hub.specs.declared.calls.Outcome.TheVariants.{Connected, Wrote, Dropped, Failed}
-use Rattle.hub_runs.proofs.{Acting.{KeepTrees, acts}, Everywhere.HasTrees-with_rest, Staying.{goes_nowhere, goes_on}, Trees.event_keeps}
+use Rattle.hub.proofs.{Acting.{KeepTrees, acts}, Everywhere.HasTrees-with_rest, Staying.{goes_nowhere, goes_on}, Trees.event_keeps}
 use Rattle.hub.proofs.Calling.{with_sessions, some_words}
 
 module _ (keeps : KeepTrees)

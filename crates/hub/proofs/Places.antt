@@ -3,7 +3,7 @@ use Rattle.std.proofs.Common.{◌≡◌, ℕ, List, [], ◌∷◌, Some, None, B
 use Rattle.std.proofs.{lemmas.Bool.Decides.nat_tests, lemmas.Option.slice_get_within}
 use Rattle.std.specs.{Prelude.{if◌then◌else◌, slice_set}, List.slice_get}
 use Rattle.machine.specs.Stages.{is_open, SessionState}
-use Rattle.hub_runs.specs.{SessionLaws.{session_of-without, updated_updated, without-updated}, State.{Finds, kept, session_of, updated, without}}
+use Rattle.hub.specs.{SessionLaws.{session_of-without, updated_updated, without-updated}, State.{Finds, kept, session_of, updated, without}}
 
 pub updated_same : (xs : List (ℕ × SessionState)) (n : ℕ) (s : SessionState) → session_of xs n ≡ Some s → updated xs n s ≡ xs
 updated_same [] n s h = refl

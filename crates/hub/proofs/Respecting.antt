@@ -9,14 +9,13 @@ use Rattle.repo_api.specs.{Locking.{is_handed_in, is_in_the_way}, States.{RepoSt
 use Rattle.repo_api.specs.declared.lock.Lock.{Lock as LockValue}
 use Rattle.wire_replies.specs.declared.reply.Reply.{Reply}
 use Rattle.machine.specs.{Hearing.Input, declared.env.Env.Env}
-use Rattle.hub_runs.specs.{Done.GoesOnBy, Laws.{AllHoldLocks, IsNewWord, IsTold, MakesNewTokens, RespectLocks, UsesWord}}
-use Rattle.hub_runs.specs.{Runs.{ends_of, Event, HubRun, HubStep, with_rest}, Runs.Event.{Connects, Drops, HandsIn, Hears, Leaves}, State.HubState}
+use Rattle.hub.specs.{Done.GoesOnBy, Laws.{AllHoldLocks, IsNewWord, IsTold, MakesNewTokens, RespectLocks, UsesWord}}
+use Rattle.hub.specs.{Runs.{ends_of, Event, HubRun, HubStep, with_rest}, Runs.Event.{Connects, Drops, HandsIn, Hears, Leaves}, State.HubState}
 use Rattle.hub.specs.{Calls.{CallStep, CallRun}, CallLaws.{CallMakesNewTokens, CallsMakeNewTokens}}
 use Rattle.hub.specs.{declared.hub.HubFault.TheVariants.{NoSession, NoMemory, Halted, Full}, declared.calls.Call.Call}
 use Rattle.hub.specs.{declared.calls.Call.TheVariants.{Connect, Feed, Disconnect}, declared.calls.Outcome.Outcome}
 use Rattle.hub.specs.declared.calls.Outcome.TheVariants.{Connected, Wrote, Dropped, Failed}
-use Rattle.hub_runs.proofs.Acting.{Acts, acts}
-use Rattle.hub.proofs.Calling.{some_words}
+use Rattle.hub.proofs.{Acting.{Acts, acts}, Calling.some_words}
 
 -- where there are no locks, no two have one token
 pub none_at_first : HaveOwnTokens empty

@@ -3,7 +3,7 @@ use Rattle.std.proofs.Common.{ℕ, List, []}
 use Rattle.machine.specs.declared.env.Env.{Env}
 use Rattle.wire_replies.specs.Sinks.{WritesPart}
 use Rattle.hub.specs.{declared.hub.HubFault.HubFault, declared.hub.HubFault.TheVariants.{NoSession, NoMemory, Halted, Full}, Calls.{FeedsTo, FeedBreaks}}
-use Rattle.hub_runs.specs.State.{HubState}
+use Rattle.hub.specs.State.{HubState}
 
 module _ (old : HubState) (env : Env) (n : ℕ) (piece : List ℕ) (new : HubState) (writes writes' : List ℕ → Type 0) (seen : (bytes : List ℕ) → writes bytes → writes' bytes) where
   pub feeds_as : FeedsTo old env n piece new writes → FeedsTo old env n piece new writes'

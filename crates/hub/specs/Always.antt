@@ -3,8 +3,8 @@ use Rattle.std.specs.Prelude.{List}
 use Rattle.repo_api.specs.Accepted.{Accepted}
 use Rattle.wire_replies.specs.declared.reply.Reply.{Reply}
 use Rattle.machine.specs.declared.env.Env.{Env}
-use Rattle.hub_runs.specs.{Done.{HasDone, HaveDone}, Runs.{Event, HubRun}, State.HubState}
-use Rattle.hub.specs.{Calls.CallRun, CallLaws.CallsHaveDone, declared.calls.Call.Call, declared.calls.Outcome.Outcome}
+use Rattle.hub.specs.{Done.{HasDone, HaveDone}, Runs.{Event, HubRun}, State.HubState, Calls.CallRun, CallLaws.CallsHaveDone, declared.calls.Call.Call}
+use Rattle.hub.specs.declared.calls.Outcome.{Outcome}
 
 -- this holds of each run of events
 abbrev pub OfRuns : ((old : HubState) (env : Env) (events : List Event) (told : List Reply)

@@ -1,8 +1,8 @@
 -- Words of the laws of calls of a hub.
 use Rattle.hub.specs.{Calls.{CallStep, CallRun}, declared.calls.Call.TheVariants.{Connect, Feed, Disconnect}, declared.calls.Call.Call}
 use Rattle.hub.specs.{declared.calls.Outcome.TheVariants.{Connected, Wrote, Dropped, Failed}, declared.calls.Outcome.Outcome}
-use Rattle.hub.specs.declared.hub.HubFault.TheVariants.{NoSession, NoMemory, Halted, Full}
-use Rattle.hub_runs.specs.{Done.HaveDone, Laws.MakesNewTokens, Runs.{ends_of, with_rest}, State.HubState}
+use Rattle.hub.specs.{declared.hub.HubFault.TheVariants.{NoSession, NoMemory, Halted, Full}, Done.HaveDone, Laws.MakesNewTokens, Runs.{ends_of, with_rest}}
+use Rattle.hub.specs.State.{HubState}
 use Rattle.repo_api.specs.Accepted.{Accepted}
 use Rattle.std.specs.Prelude.{◌≡◌, List, [], ◌∷◌, ◌++◌}
 

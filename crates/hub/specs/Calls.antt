@@ -5,8 +5,8 @@ use Rattle.machine.specs.declared.env.Env.{Env}
 use Rattle.hub.specs.{declared.hub.TheConstants.MAX_SESSIONS, declared.hub.HubFault.HubFault}
 use Rattle.hub.specs.{declared.hub.HubFault.TheVariants.{NoSession, NoMemory, Halted, Full}, declared.calls.Call.Call}
 use Rattle.hub.specs.{declared.calls.Call.TheVariants.{Connect, Feed, Disconnect}, declared.calls.Outcome.Outcome}
-use Rattle.hub.specs.declared.calls.Outcome.TheVariants.{Connected, Wrote, Dropped, Failed}
-use Rattle.hub_runs.specs.{Runs.{Breaks, BreaksOff, Feeds, HubStep}, Runs.Event.{Connects, Drops}, State.{HubState, session_of}}
+use Rattle.hub.specs.{declared.calls.Outcome.TheVariants.{Connected, Wrote, Dropped, Failed}, Runs.{Breaks, BreaksOff, Feeds, HubStep}}
+use Rattle.hub.specs.{Runs.Event.{Connects, Drops}, State.{HubState, session_of}}
 
 -- there was room for a new session, which is greeted so
 pub record ConnectsAs (old : HubState) (n : ℕ) (out : List ℕ) (new : HubState) : Type 0 where

@@ -1,3 +1,10 @@
 pub mod Calls
 pub mod CallLaws
 pub mod Always
+pub mod State
+pub mod Runs
+pub mod Asked
+pub mod Laws
+pub mod Done
+pub mod SessionLaws
+pub mod Opening

@@ -4,7 +4,7 @@ ghost use Rattle.std.specs.Prelude.{is_some};
 ghost use Rattle.repo_api.specs.{Opening.new_repository, Soundness.AreSound};
 ghost use Rattle.access.specs.{Points.content_of, Sole.point_at};
 ghost use Rattle.wire_replies.specs.Replies.{print};
-ghost use Rattle.hub_runs.specs.{Runs.{BreaksOff, Feeds, HubStep, new_session}, Runs.Event.Drops, State.{Finds, hub_at, session_of, without}};
+ghost use Rattle.hub.specs.{Runs.{BreaksOff, Feeds, HubStep, new_session}, Runs.Event.Drops, State.{Finds, hub_at, session_of, without}};
 ghost use Rattle.hub.specs.Calls.{IsFull, ConnectsAs, ConnectFails, FeedsAs, FeedFails, FedTo};
 
 use crate::laws::new_repositories_are_sound;
@@ -120,7 +120,7 @@ impl<A: SoleAccess + Drop> Drop for Hub<A> {
 
 impl<A: SoleAccess> Model for Hub<A> {
     ghost use Rattle.std.specs.{Coded.codes, FinMap.code as map_code};
-    ghost use Rattle.hub_runs.specs.State.{AllOpen, HasTrees, hub_at, HubState};
+    ghost use Rattle.hub.specs.State.{AllOpen, HasTrees, hub_at, HubState};
 
     ghost Value = { HubState };
 

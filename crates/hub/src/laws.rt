@@ -12,10 +12,10 @@ ghost use Rattle.access.specs.Points.{content_of, last_count, Point};
 ghost use Rattle.machine.specs.{Hearing.{Input, Yields}, Hearing.Input.Whole, Machine.MachineEdit, Settings.Settings, Stages.SessionState};
 ghost use Rattle.machine.specs.{declared.env.Env.Env, declared.login.OpenLogin.OpenLogin, declared.phase.Client.Client};
 ghost use Rattle.machine.specs.declared.phase.Phase.TheVariants.{Editing, LoggingIn, Serving};
-ghost use Rattle.hub_runs.specs.{Asked.IsAsked, Done.{GoesOnBy, HasDone, HaveDone}, Laws.{AllKeepSides, IsUnbroken, KeepsConstants, KeepsOtherProperties}};
-ghost use Rattle.hub_runs.specs.{Laws.{KeepsProperties, MakesNewTokens, new_hub, RespectLocks, TellsFailure}, Runs.{Event, HubStep, with_rest}};
-ghost use Rattle.hub_runs.specs.State.{HasTrees, hub_at, HubState, session_of};
-ghost use Rattle.hub.specs.{CallLaws.{CallsMakeNewTokens, CallsHaveDone}, Always.{Always, AlwaysBy, OfCalls, OfRuns}};
+ghost use Rattle.hub.specs.{Asked.IsAsked, Done.{GoesOnBy, HasDone, HaveDone}, Laws.{AllKeepSides, IsUnbroken, KeepsConstants, KeepsOtherProperties}};
+ghost use Rattle.hub.specs.{Laws.{KeepsProperties, MakesNewTokens, new_hub, RespectLocks, TellsFailure}, Runs.{Event, HubStep, with_rest}};
+ghost use Rattle.hub.specs.{State.{HasTrees, hub_at, HubState, session_of}, CallLaws.{CallsMakeNewTokens, CallsHaveDone}};
+ghost use Rattle.hub.specs.Always.{Always, AlwaysBy, OfCalls, OfRuns};
 
 /// Shows that the trees and changes of revisions that exist stay the same, whatever happens, and whatever calls come.
 pub fn revisions_stay()

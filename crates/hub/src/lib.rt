@@ -1,9 +1,11 @@
-//! Many sessions over one repository, and what holds of them all.
+//! Many sessions of one repository: their runs, as one plain machine that steps at each item, the
+//! calls that make them, the laws of all runs, and a hub over a repository in a folder.
 #![tactic(auto)]
 
 mod calls;
 mod hub;
 mod laws;
+mod opening;
 
 pub use access::SoleRepository;
 pub use calls::{Call, Outcome, make_call, make_calls};
@@ -17,3 +19,4 @@ pub use laws::{
     trees_stay_trees,
 };
 pub use machine::{Env, Options, is_repository_name};
+pub use opening::{FolderHub, hub_over, store_of};

@@ -1,7 +1,7 @@
 -- How many items begin in the bytes that the scanner takes: as many as there are in the item that they spell.
-use Rattle.std.proofs.Common.{◌≡◌, ℕ, zero, suc, ◌+◌, ◌-◌, ◌*◌, ◌≤◌, ◌<◌, List, [], ◌∷◌, ◌++◌, length, Bool, true, false, cond, ◌==◌, nat_le, nat_lt, IsTrue, refl, sym, ap, ◌∙◌, subst}
-use Rattle.std.proofs.Common.{take, drop, slice_index, append-nil, append_assoc, take-add, take-append-drop, take_all, length-take-le, length-drop, arith}
-use Rattle.std.proofs.{Math.Dec.eqb-suc-zero, lemmas.Bool.Decides.nat_tests, lemmas.List.take_more}
+use Rattle.std.proofs.Common.{◌≡◌, ℕ, zero, suc, ◌+◌, ◌-◌, ◌*◌, ◌≤◌, ◌<◌, List, [], ◌∷◌, ◌++◌, length, Bool, true, false, cond, ◌==◌, nat_le, nat_lt, IsTrue}
+use Rattle.std.proofs.Common.{refl, sym, ap, ◌∙◌, subst, take, drop, slice_index, append-nil, append_assoc, take-add, take-append-drop, take_all}
+use Rattle.std.proofs.{Common.{length-take-le, length-drop, arith}, Math.Dec.eqb-suc-zero, lemmas.Bool.Decides.nat_tests, lemmas.List.take_more}
 use Rattle.std.specs.Char.{is_ascii_digit, is_ascii_alphabetic}
 use Rattle.items.specs.declared.scan.Lex.TheVariants as lexes
 use Rattle.items.specs.declared.scan.Defect.TheVariants as defects
@@ -11,12 +11,13 @@ use Rattle.items.specs.{declared.scan.Lex.Lex, declared.scan.Scan.Scan, declared
 use Rattle.items.specs.Word.{EachPasses, IsSpace, IsDigit, IsWord, is_space, is_word_byte}
 use Rattle.items.specs.Values.{ItemValue, word, number, string, list, ItemValues, none, more, Limits, limits, IsWithin, AreWithin}
 use Rattle.items.specs.{Spelling.{value_behind, IsNumeral, Spaced, IsBody, AreSpelled}, Scan.{at, on, step, step_in, gap_step, number_step, behind_body}}
-use Rattle.items.specs.{Run.{unfinished, whole, outcome_of, run, start, IsScanned, EndsSo, Skips}, Stream.{IsItem}, Unread.Unread}
+use Rattle.items.specs.{Run.{unfinished, whole, outcome_of, run, start, IsScanned, EndsSo, Skips}, Stream.IsItem, Unread.Unread}
 use Rattle.items.specs.{Counting.{item_count, row_count, IsFewest, CountsItems}, Tally.{enters, begun, tally_of, tally, IsCounted, lacking_in, lacking}}
 use Rattle.items.proofs.Classes.{space-no_word, space-no_digit, space-no_colon, digit-no_space, digit-no_opening, digit-no_closing, letter-no_space}
 use Rattle.items.proofs.Classes.{letter-no_opening, letter-no_closing, letter-no_digit, le-test, value-grows}
-use Rattle.items.proofs.{Complete.{run-item, run-word, run-letters, run-number, run-string, run-closing}, Ahead.First, Sound.ends_item, Completed.{closers, onward-closers, run-opening_space, some_string, run-append}, Defects.nine_fits}
-use Rattle.items.proofs.{Faults.begins-take, Scanned.{item_there, wrong_there}}
+use Rattle.items.proofs.{Complete.{run-item, run-word, run-letters, run-number, run-string, run-closing}, Ahead.First, Sound.ends_item}
+use Rattle.items.proofs.{Completed.{closers, onward-closers, run-opening_space, some_string, run-append}, Defects.nine_fits, Faults.begins-take}
+use Rattle.items.proofs.Scanned.{item_there, wrong_there}
 
 -- ---- the bytes of an item, token by token
 

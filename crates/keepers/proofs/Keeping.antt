@@ -1,11 +1,12 @@
 -- What a save leaves.
 use Rattle.std.proofs.Common.{lit<, ◌≡◌, ◌<◌, ℕ, Bool, true, false, true≢false, List, [], ◌∷◌, ◌++◌, length, None, ◌∙◌, refl, sym, ap, subst}
 use Rattle.repo_api.specs.{Accepted.{Accepted, changed, IsAccepted}, Soundness.AreSound, States.RepoState}
-use Rattle.access.specs.{Changing.{IsFailure, IsHalt}, Points.HasRisen}
-use Rattle.published.specs.{Edition.{Edition, edition_after}, Events.{Event, IsHistory, Told, knowing, moment_of, own_in, point_of, state_of, told, told_by, told_in}}
+use Rattle.access.specs.{Changing.{IsFailure, IsHalt}, Points.HasRisen, Beginnings.through}
+use Rattle.published.specs.Edition.{Edition, edition_after}
+use Rattle.published.specs.Events.{Event, IsHistory, Told, knowing, moment_of, own_in, point_of, state_of, told, told_by, told_in}
 use Rattle.published.specs.{Events.Event.{Fails, Makes, Opened}, Files.{Agrees, Kept, MayOpen}, Moments.added}
-use Rattle.published.proofs.Histories.{failures_by, halted_by, history_sound, longer_yet, moment_fails, moment_more, pending_halted, pending_still, state_more, state_still, told_fails, told_makes}
-use Rattle.stops.specs.Beginnings.{through}
+use Rattle.published.proofs.Histories.{failures_by, halted_by, history_sound, longer_yet, moment_fails, moment_more, pending_halted, pending_still, state_more}
+use Rattle.published.proofs.Histories.{state_still, told_fails, told_makes}
 use Rattle.archives.specs.Archives.{FilesFor, FilesStand}
 use Rattle.keepers.specs.Standing.{Standing, standing, IsSteady}
 

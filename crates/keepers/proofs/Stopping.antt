@@ -3,8 +3,8 @@ use Rattle.std.proofs.Common.{◌≡◌, List, [], ◌∷◌, false, subst}
 use mathlib.Core.List.{IsPrefix}
 use Rattle.repo_api.specs.{Accepted.{Accepted, changed_all, IsAccepted}, States.RepoState}
 use Rattle.published.specs.{Events.state_of, Files.Kept}
-use Rattle.stops.specs.Beginnings.{through}
-use Rattle.stops.proofs.First as first
+use Rattle.access.specs.Beginnings.{through}
+use Rattle.access.proofs.First as first
 use Rattle.keepers.specs.Standing.{Standing, IsSteady, StopLeaves}
 use Rattle.keepers.proofs.Keeping.{stands_now}
 

@@ -1,12 +1,11 @@
 -- How a keeper stands between calls, as contracts see it.
-use Rattle.std.specs.Prelude.{◌≡◌, ◌<◌, ◌^◌, ℕ, List, [], ◌∷◌, true, false, length, slice_get, Some, Result, Ok, Err, Vec}
+use Rattle.std.specs.{Prelude.{◌≡◌, ◌<◌, ◌^◌, ℕ, List, [], ◌∷◌, true, false, length, slice_get, Some, Result, Ok, Err, Vec}, declared.alloc.Global.Global}
 use mathlib.Core.List.{IsPrefix}
-use Rattle.stops.specs.Calls.{AreCalls, CallLeaves}
-use Rattle.std.specs.declared.alloc.Global.{Global}
+use Rattle.access.specs.{Calls.{AreCalls, CallLeaves}, Points.Point}
 use Rattle.repo_api.specs.{Accepted.Accepted, States.RepoState, declared.fault.ChangeFault.ChangeFault}
 use Rattle.repo_api.specs.declared.fault.ChangeFault.TheVariants as faults
-use Rattle.access.specs.Points.{Point}
-use Rattle.published.specs.{Edition.Edition, Events.{Event, IsHistory, Known, count_in, knowing, point_of, state_of}, Events.Event.Opened, Files.{Agrees, Kept}, Moments.GoesOn}
+use Rattle.published.specs.{Edition.Edition, Events.{Event, IsHistory, Known, count_in, knowing, point_of, state_of}, Events.Event.Opened, Files.{Agrees, Kept}}
+use Rattle.published.specs.Moments.{GoesOn}
 use Rattle.archives.specs.Archives.{FilesStand}
 
 -- the events, the repository, what is published, and the archive

@@ -1,6 +1,5 @@
 -- Each text follows from the one before.
-use Rattle.std.proofs.Common.{◌≡◌, ◌≤◌, ℕ, Bool, true, false, List, [], ◌∷◌, length, map, Option, Some, None, refl, ap, ◌∙◌}
-use Rattle.std.proofs.lemmas.Bool.{false≢true}
+use Rattle.std.proofs.{Common.{◌≡◌, ◌≤◌, ℕ, Bool, true, false, List, [], ◌∷◌, length, map, Option, Some, None, refl, ap, ◌∙◌}, lemmas.Bool.false≢true}
 use Rattle.std.specs.{Prelude.Ok, List.concat}
 use Rattle.svnpath.specs.PathLaws.{same_component_is}
 use Rattle.svndiff0.specs.{Document.document_text, Window.limit}

@@ -14,19 +14,19 @@ use Rattle.wire_edits.specs.Editing.{ends_edit}
 use Rattle.machine.specs.{Hearing.Input, Hearing.Input.{Whole, Broken}, Answers.Verdict.{Written, NotWritten, Unknown}}
 use Rattle.machine.specs.{declared.login.OpenChallenge.OpenChallenge, Settings.Settings, Stages.Stage}
 use Rattle.machine.specs.{Answers.{Verdict, Answer, Step, says, change_answer, ChangeStep, behind, Behind}, Commands.{OwnStep, asked_by, lock_tokens}}
-use Rattle.machine.specs.Commands.{commit_begins, env_without_token, is_long_comment, lock_ask, unlock_ask, lock_answer, LockingStep, LockStep, UnlockStep, DatingStep, PropertyStep, reparented}
-use Rattle.machine.specs.Dates.{is_refused_date}
-use Rattle.machine.specs.{Commands.login_request, Reports.{drawn_answer, driven_answer}, Logins.{offer, chosen, wants_user, speaks, url_answer}}
-use Rattle.machine.specs.Logins.{greeting_answer, LoggedIn, ChoiceStep, LoginStep, with_user, OutcomeStep, ChallengeStep}
-use Rattle.machine.specs.{Machine.{InputStep, KnownCommand, MainStep, skipping_answer}, declared.commit_parameters.CommitParameters.CommitParameters}
-use Rattle.machine.specs.{declared.env.Env.Env, declared.login.Mechanism.Mechanism, declared.login.OpenLogin.OpenLogin, declared.phase.Client.Client}
+use Rattle.machine.specs.Commands.{commit_begins, env_without_token, is_long_comment, lock_ask, unlock_ask, lock_answer, LockingStep, LockStep, UnlockStep}
+use Rattle.machine.specs.{Commands.{DatingStep, PropertyStep, reparented, login_request}, Dates.is_refused_date, Reports.{drawn_answer, driven_answer}}
+use Rattle.machine.specs.Logins.{offer, chosen, wants_user, speaks, url_answer, greeting_answer, LoggedIn, ChoiceStep, LoginStep, with_user, OutcomeStep}
+use Rattle.machine.specs.{Logins.ChallengeStep, Machine.{InputStep, KnownCommand, MainStep, skipping_answer}}
+use Rattle.machine.specs.{declared.commit_parameters.CommitParameters.CommitParameters, declared.env.Env.Env, declared.login.Mechanism.Mechanism}
+use Rattle.machine.specs.{declared.login.OpenLogin.OpenLogin, declared.phase.Client.Client}
 use Rattle.machine.specs.declared.phase.Phase.TheVariants.{Greeted, LoggingIn, Challenged, Serving, Editing, Skipping, Reporting, Driven, Ended}
 use Rattle.wire_forms.specs.{declared.fault.CommandFault.CommandFault, declared.fault.CommandFault.TheVariants.{UnknownName, BadParameters, NoMemory}}
 use Rattle.wire_replies.specs.declared.reply.Reply.{Reply}
 use Rattle.wire_replies.specs.declared.reply.Reply.TheVariants as replies
-use Rattle.drive_wire.specs.{Reporting.{Drawn, client_answer}, Reporting.Drawn.{GoesOn, GivenUp, Fails, Drives, Malformed}}
-use Rattle.drive_wire.specs.{declared.answering.ClientAnswer.ClientAnswer, declared.answering.ClientAnswer.TheVariants.Taken}
-use Rattle.drive_wire.specs.declared.answering.ClientAnswer.TheVariants as answers
+use Rattle.reporter.specs.{Reporting.{Drawn, client_answer}, Reporting.Drawn.{GoesOn, GivenUp, Fails, Drives, Malformed}}
+use Rattle.reporter.specs.{declared.answering.ClientAnswer.ClientAnswer, declared.answering.ClientAnswer.TheVariants.Taken}
+use Rattle.reporter.specs.declared.answering.ClientAnswer.TheVariants as answers
 use Rattle.edit_rules.specs.Edits.{new_edit}
 use Rattle.machine.specs.declared.login.Mechanism.TheVariants as mechanisms
 

@@ -13,8 +13,8 @@ use Rattle.wire_forms.specs.{declared.fault.CommandFault.CommandFault, declared.
 use Rattle.edit_rules.specs.{Editor.{Applies, Edits as EditsTxn, finished, RestsIn, RestsOn}, Edits.EditState, Refusing.edit_refusal, Tokens.Tokens}
 use Rattle.access.specs.{Changing.unchanged_content, Points.{AccessRules, content_of, Point}}
 use Rattle.machine.specs.{Settings.Settings, Stages.{Stage, EditRests, StandsOn}, Hearing.Input, Hearing.Input.{Whole, Broken}}
-use Rattle.machine.specs.{Answers.{Verdict, Effect, Answer, Step, content_after}, Machine.{InputStep, MachineEdit, JudgedEdit, CommitStep}}
-use Rattle.machine.specs.Machine.{CloseStep, CommandStep, EditingStep, ending_of, commit_ask, release_fails, CommittedStep}
+use Rattle.machine.specs.{Answers.{Verdict, Effect, Answer, Step, content_after}, Machine.{InputStep, MachineEdit, JudgedEdit, CommitStep, CloseStep}}
+use Rattle.machine.specs.Machine.{CommandStep, EditingStep, ending_of, commit_ask, release_fails, CommittedStep}
 use Rattle.machine.specs.{Answers.Verdict.{Written, NotWritten, Unknown}, Steps.{StepAt, AddsAll, Stores, EffectAt}}
 use Rattle.machine.specs.{declared.commit_parameters.CommitParameters.CommitParameters, declared.env.Env.Env, declared.ending.Ending.Ending}
 use Rattle.machine.specs.declared.ending.Ending.TheVariants.{Commits as ToCommit, GivesUp}

@@ -16,9 +16,9 @@ use Rattle.edit_rules.specs.{Soundness.{IsSoundEdit, IsSoundIn}, Tokens.{has_unf
 use Rattle.machine.specs.{Settings.Settings, Stages.{Stage, EditRests, EditIsSound, StandsOn}, Soundness.MeetBy, Hearing.Input, Hearing.Input.{Whole, Broken}}
 use Rattle.machine.specs.{Answers.{Verdict, Answer, content_after}, Machine.{InputStep, UnreleasedStep, MachineEdit, JudgedEdit, CommitStep, CloseStep}}
 use Rattle.machine.specs.Machine.{UnreleasedClose, CommandStep, EditingStep, ending_of, commit_ask, Release, release_effect, release_fails, made_answer}
-use Rattle.machine.specs.{Machine.{unreleased_answer, CommittedStep}, Machine.Release.{Stays, Released, NotReleased, InDoubt}, Answers.Verdict.{Written, NotWritten, Unknown}}
-use Rattle.machine.specs.{declared.commit_parameters.CommitParameters.CommitParameters, declared.env.Env.Env, declared.ending.Ending.Ending}
-use Rattle.machine.specs.declared.ending.Ending.TheVariants.{Commits as ToCommit, GivesUp}
+use Rattle.machine.specs.{Machine.{unreleased_answer, CommittedStep}, Machine.Release.{Stays, Released, NotReleased, InDoubt}}
+use Rattle.machine.specs.{Answers.Verdict.{Written, NotWritten, Unknown}, declared.commit_parameters.CommitParameters.CommitParameters, declared.env.Env.Env}
+use Rattle.machine.specs.{declared.ending.Ending.Ending, declared.ending.Ending.TheVariants.{Commits as ToCommit, GivesUp}}
 use Rattle.machine.specs.declared.phase.Phase.TheVariants.{Greeted, LoggingIn, Challenged, Serving, Editing, Skipping, Reporting, Driven, Ended}
 use Rattle.machine.specs.declared.phase.Client.{Client}
 use Rattle.machine.proofs.{Quiet.{HasNewEdit, KeepRevisions, IsQuiet, quiet_input}, Resting.{rests_on, rests_read}}

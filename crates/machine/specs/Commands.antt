@@ -14,16 +14,17 @@ use Rattle.commands.specs.{declared.command.DriveCommand.TheVariants.{Update, Sw
 use Rattle.commands.specs.declared.command.MainCommand.TheVariants.{Read, Drive, Commit, AbortEdit, Lock, Unlock, ChangeRevProp, Reparent}
 use Rattle.commands.specs.{declared.command.ReadCommand.ReadCommand, declared.command.ReadCommand.TheVariants.{GetLatestRev, CheckPath, RevProplist, GetLock}}
 use Rattle.commands.specs.declared.command.ReadCommand.TheVariants.{GetLocks, GetFile, GetDir, Stat, GetDatedRev, RevProp, Log, GetLocations, History}
-use Rattle.commands.specs.{declared.command.HistoryCommand.HistoryCommand, declared.command.HistoryCommand.TheVariants.{GetLocationSegments, GetDeletedRev, GetFileRevs, Replay, ReplayRange}}
+use Rattle.commands.specs.declared.command.HistoryCommand.{HistoryCommand}
+use Rattle.commands.specs.declared.command.HistoryCommand.TheVariants.{GetLocationSegments, GetDeletedRev, GetFileRevs, Replay, ReplayRange}
 use Rattle.commands.specs.{declared.command.LockCommand.LockCommand, declared.command.UnlockCommand.UnlockCommand}
 use Rattle.wire_replies.specs.{Replies.uuid_text, declared.reply.Reply.Reply}
 use Rattle.wire_replies.specs.declared.reply.Reply.TheVariants as replies
-use Rattle.drive_reports.specs.{Refusing.{ask_of, begun_report}, declared.ask.DriveAsk.DriveAsk}
-use Rattle.drive_reports.specs.declared.ask.Purpose.{Purpose}
-use Rattle.drive_reports.specs.declared.ask.Purpose.TheVariants as purposes
+use Rattle.reporter.specs.{Refusing.{ask_of, begun_report}, declared.ask.DriveAsk.DriveAsk, declared.ask.Purpose.Purpose}
+use Rattle.reporter.specs.declared.ask.Purpose.TheVariants as purposes
 use Rattle.edit_rules.specs.Edits.{new_edit}
 use Rattle.machine.specs.{Settings.Settings, Answers.{Verdict, Answer, Step, says, serves, change_answer, ChangeStep, Always, Shows}}
-use Rattle.machine.specs.{Answers.Verdict.{Written, NotWritten, Unknown}, Dates.is_refused_date, Histories.{all_joined, deleted_reply, file_revisions_replies, log_replies, locations_replies, segments_replies}}
+use Rattle.machine.specs.{Answers.Verdict.{Written, NotWritten, Unknown}, Dates.is_refused_date}
+use Rattle.machine.specs.Histories.{all_joined, deleted_reply, file_revisions_replies, log_replies, locations_replies, segments_replies}
 use Rattle.machine.specs.Replays.{replay_range_replies, replay_replies}
 use Rattle.machine.specs.{Readings.{place_read, file_replies, directory_reply, stat_reply, dated_reply, property_reply}, declared.env.Env.Env}
 use Rattle.machine.specs.{declared.commit_parameters.CommitParameters.CommitParameters, declared.phase.Phase.TheVariants.{Serving, Editing, Reporting}}

@@ -1,14 +1,15 @@
 -- What the commands are answered that read the history of paths.
-use Rattle.std.specs.Prelude.{ℕ, Bool, true, false, not, ◌||◌, max, min, nat_lt, List, [], ◌∷◌, ◌++◌, map, Option, Some, None, Result, Ok, Err, if◌then◌else◌, codes}
-use Rattle.std.specs.List.{find, list_all, list_any}
+use Rattle.std.specs.Prelude.{ℕ, Bool, true, false, not, ◌||◌, max, min, nat_lt, List, [], ◌∷◌, ◌++◌, map, Option, Some, None, Result, Ok, Err, if◌then◌else◌}
+use Rattle.std.specs.{Prelude.codes, List.{find, list_all, list_any}}
 use Rattle.svnpath.specs.{Listings.listing, Paths.PathValue, Texts.joined, declared.fault.PathFault.PathFault}
 use Rattle.refusals.specs.{declared.Refusal.Refusal, Refusing.path_refusal}
 use Rattle.refusals.specs.declared.Refusal.TheVariants as refusals
-use Rattle.repo_api.specs.{Histories.{Changed, history_of}, Kinds.{is_file_kind, is_present, kind_at, properties_at, text_at}, Properties.{is_same_value, PropertyList}}
-use Rattle.repo_api.specs.States.{RepoState, youngest}
+use Rattle.repo_api.specs.{Histories.{Changed, history_of}, Kinds.{is_file_kind, is_present, kind_at, properties_at, text_at}}
+use Rattle.repo_api.specs.{Properties.{is_same_value, PropertyList}, States.{RepoState, youngest}}
 use Rattle.traces.specs.declared.place.Place.{Place}
 use Rattle.history.specs.{Locations.{kind_shown, locations}, Logs.{log, newest_asked, place_at}, declared.log_ask.LogAsk.LogAsk}
-use Rattle.file_histories.specs.{Deleted.deleted_revision, Differing.differing, FileRevisions.file_revisions, Segments.{cut, segments}, declared.segment.Segment.Segment}
+use Rattle.file_histories.specs.{Deleted.deleted_revision, Differing.differing, FileRevisions.file_revisions, Segments.{cut, segments}}
+use Rattle.file_histories.specs.declared.segment.Segment.{Segment}
 use Rattle.commands.specs.{declared.command.GetLocationsCommand.GetLocationsCommand, declared.command.LogCommand.LogCommand}
 use Rattle.commands.specs.{declared.command.GetDeletedRevCommand.GetDeletedRevCommand, declared.command.GetFileRevsCommand.GetFileRevsCommand}
 use Rattle.commands.specs.declared.command.GetLocationSegmentsCommand.{GetLocationSegmentsCommand}

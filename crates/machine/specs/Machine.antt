@@ -15,7 +15,7 @@ use Rattle.wire_edits.specs.declared.editing.EditorCommand.TheVariants.{ApplyTex
 use Rattle.wire_edits.specs.declared.editing.EditorCommand.TheVariants as edits
 use Rattle.wire_forms.specs.{declared.fault.CommandFault.CommandFault, declared.fault.CommandFault.TheVariants.{UnknownName, BadParameters, NoMemory}}
 use Rattle.wire_replies.specs.declared.reply.Reply.TheVariants as replies
-use Rattle.drive_wire.specs.Reporting.{client_answer}
+use Rattle.reporter.specs.Reporting.{client_answer}
 use Rattle.edit_rules.specs.{Editor.{Applies, applies_weaker, finished}, Edits.EditState, Refused.refused_at, Refusing.edit_refusal}
 use Rattle.machine.specs.{Settings.Settings, Hearing.Input, Hearing.Input.{Whole, Broken}, Stages.Stage}
 use Rattle.machine.specs.Answers.{Verdict, Effect, no_effect, Answer, Step, says, serves, change_answer, Behind, failure_at, malformed, refuses, Always}

@@ -13,7 +13,7 @@ use Rattle.traces.specs.declared.place.Place.{Place}
 use Rattle.history.specs.Dates.{dated_rev}
 use Rattle.wire_forms.specs.Forms.{is_name}
 use Rattle.commands.specs.{declared.command.GetFileCommand.GetFileCommand, declared.command.GetDirCommand.GetDirCommand}
-use Rattle.drive_reports.specs.Refusing.{revision_read}
+use Rattle.reporter.specs.Refusing.{revision_read}
 use Rattle.machine.specs.Answers.{failure_at}
 use Rattle.wire_replies.specs.{Replies.{contents, uuid_text}, declared.entries.NodeInfo.NodeInfo, declared.reply.Reply.Reply}
 use Rattle.wire_replies.specs.declared.reply.Reply.TheVariants as replies

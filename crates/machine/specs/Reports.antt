@@ -6,10 +6,9 @@ use Rattle.repo_api.specs.States.{RepoState}
 use Rattle.wire_edits.specs.declared.editing.EditorCommand.TheVariants as edits
 use Rattle.wire_replies.specs.{declared.failures.FailureLink.FailureLink, declared.reply.Reply.Reply}
 use Rattle.wire_replies.specs.declared.reply.Reply.TheVariants as replies
-use Rattle.drive_reports.specs.declared.graft.Graft.{Graft}
-use Rattle.drive_wire.specs.{Reporting.{Drawn, ReportStep}, Reporting.Drawn.{GoesOn, GivenUp, Fails, Drives, Malformed}}
-use Rattle.drive_wire.specs.{declared.answering.ClientAnswer.ClientAnswer, declared.answering.ClientAnswer.TheVariants.Taken}
-use Rattle.drive_wire.specs.declared.answering.ClientAnswer.TheVariants as answers
+use Rattle.reporter.specs.{declared.graft.Graft.Graft, Reporting.{Drawn, ReportStep}, Reporting.Drawn.{GoesOn, GivenUp, Fails, Drives, Malformed}}
+use Rattle.reporter.specs.{declared.answering.ClientAnswer.ClientAnswer, declared.answering.ClientAnswer.TheVariants.Taken}
+use Rattle.reporter.specs.declared.answering.ClientAnswer.TheVariants as answers
 use Rattle.machine.specs.{Settings.Settings, Answers.{Answer, Step, says, serves, failure_at, malformed}, declared.env.Env.Env, declared.phase.Client.Client}
 use Rattle.machine.specs.{declared.phase.OpenReporting.OpenReporting, declared.phase.Phase.TheVariants.{Serving, Reporting, Driven}}
 

@@ -2,7 +2,7 @@
 use Rattle.std.specs.Prelude.{ℕ, Bool, true, false, List, Option, None}
 use Rattle.repo_api.specs.{Soundness.AreSound, States.RepoState}
 use Rattle.edit_rules.specs.{Editor.RestsOn, Edits.EditState, Soundness.IsSoundEdit}
-use Rattle.drive_reports.specs.declared.graft.Graft.{Graft}
+use Rattle.reporter.specs.declared.graft.Graft.{Graft}
 use Rattle.machine.specs.declared.phase.Phase.{Phase}
 use Rattle.machine.specs.declared.phase.Phase.TheVariants.{Greeted, LoggingIn, Challenged, Serving, Editing, Skipping, Reporting, Driven, Ended}
 

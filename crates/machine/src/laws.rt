@@ -4,9 +4,9 @@ ghost use Rattle.traces.specs.declared.place.Place.{Place};
 ghost use Rattle.wire_edits.specs.declared.editing.EditorCommand.{EditorCommand};
 ghost use Rattle.wire_forms.specs.declared.fault.CommandFault.{CommandFault};
 ghost use Rattle.repo_api.specs.States.{RepoState};
-ghost use Rattle.machine.specs.{FileTexts.FollowInTurn, Settings.Settings, Stages.{Stage, EditRests, StandsOn}, Soundness.MeetBy, Answers.{Answer, content_after}};
-ghost use Rattle.machine.specs.{Machine.{EditingStep, InputStep, MachineEdit, UnreleasedStep}, Hearing.{Input, Yields, HasNoMore, EndsBroken}};
-ghost use Rattle.machine.specs.{declared.env.Env.Env, declared.phase.Phase.TheVariants.Editing};
+ghost use Rattle.machine.specs.{FileTexts.FollowInTurn, Settings.Settings, Stages.{Stage, EditRests, StandsOn}, Soundness.MeetBy};
+ghost use Rattle.machine.specs.{Answers.{Answer, content_after}, Machine.{EditingStep, InputStep, MachineEdit, UnreleasedStep}};
+ghost use Rattle.machine.specs.{Hearing.{Input, Yields, HasNoMore, EndsBroken}, declared.env.Env.Env, declared.phase.Phase.TheVariants.Editing};
 
 /// Shows that a stream that has brought all that it does so far has brought these inputs and no others, and this is
 /// left of it; and so up to the byte that goes on to no item, where it has one. A stream that has one never comes to

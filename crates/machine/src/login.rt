@@ -1,6 +1,8 @@
 //! A login that is under way.
 ghost use Rattle.std.specs.Prelude.{◌≡◌};
-ghost use Rattle.machine.specs.{Commands.env_without_token, Logins.{chosen, first_offer, later_offer, offer, offers_anonymous, offers_external, offers_user, without_nonce}};
+ghost use Rattle.machine.specs.Commands.{env_without_token};
+ghost use Rattle.machine.specs.Logins.{chosen, first_offer, later_offer, offer, without_nonce};
+ghost use Rattle.machine.specs.Logins.{offers_anonymous, offers_external, offers_user};
 
 use crate::env::Env;
 use crate::options::Options;

@@ -5,7 +5,7 @@ ghost use Rattle.machine.specs.Stages.{is_open, user_in};
 use crate::commit_parameters::CommitParameters;
 use crate::login::{OpenChallenge, OpenLogin};
 use byte_string::ByteString;
-use drive_reports::Report;
+use reporter::Report;
 use svnpath::Path;
 
 /// Where a client is: the path of its URL in the repository, the root's URL as it spells it, and its user,

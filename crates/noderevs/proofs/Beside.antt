@@ -1,6 +1,6 @@
 -- The height of a node beside that of another, by the entries that one has and the other has not.
 use Rattle.std.proofs.Common.{◌≡◌, ℕ, ◌<◌, ◌≤◌, ◌-◌, cond, List, [], ◌∷◌, ◌++◌, Option, Some, None, Result, Ok, Err, option_and_then, refl, sym, ap, subst, ◌∙◌}
-use Rattle.std.proofs.{Common.{arith, ◌⊎◌, inl, inr}, lemmas.{Bool.cases_lt, Option.none-some}}
+use Rattle.std.proofs.{Common.{arith, ◌⊎◌, inl, inr}, lemmas.Bool.cases_lt, lemmas.Option.none-some}
 use Rattle.std.proofs.lemmas.List.Elements.{All-contains, Contains-append_left, Contains-push, Contains-push_cases}
 use Rattle.std.specs.{FinMap.{empty, get, get-empty}, List.{All, Contains}, Prelude.{IfOk, IfSome, IsSomeAnd, slice_get}}
 use Rattle.shared_map.specs.Entries.{by_bytes}

@@ -3,10 +3,9 @@ ghost use Rattle.hub.specs.{Calls.CallStep, declared.calls.Outcome.Outcome};
 
 use crate::plan::MemoryHub;
 use access::SoleAccess;
-use filed_opening::{create, open};
-use folder_hub::{FolderHub, hub_over, store_of};
-use hub::{Call, Hub, Options, SessionId, make_call};
-use in_memory::InMemory;
+use filed_repository::{create, open};
+use flatrepo::InMemory;
+use hub::{Call, FolderHub, Hub, Options, SessionId, hub_over, make_call, store_of};
 use script_lines::{Failing, LineFault, NamedFile, NewFormat, NewHub, answer_line};
 use std::alloc::{AllocError, Global};
 use std::fs;

@@ -1,14 +1,14 @@
 //! What the lines before a hub's first call ask for.
 ghost use Rattle.std.specs.Prelude.{◌≡◌, ℕ, List, IfOk};
 ghost use Rattle.dates.specs.Dates.{IsDateText};
-ghost use Rattle.hub_runs.specs.Laws.{new_hub};
+ghost use Rattle.hub.specs.Laws.{new_hub};
 
 use crate::hubs::{PlayedHub, new_folder_hub, new_memory_hub};
 use access::SoleRepository;
 use byte_string::ByteString;
 use cram::Users;
+use flatrepo::InMemory;
 use hub::Hub;
-use in_memory::InMemory;
 use script_lines::{Failing, LineFault, NewFormat, NewHub, NewUser, Place};
 use std::alloc::{AllocError, Global};
 use std::mem::drop;

@@ -2,8 +2,8 @@
 
 use crate::hubs::PlayedHub;
 use crate::plan::Plan;
+use flatrepo::InMemory;
 use hub::{Call, SessionId};
-use in_memory::InMemory;
 use script_lines::{
     Failing, Line, LineFault, NamedFile, NewFormat, NewHub, NewUser, Piece, Place, file_line,
     reopening_line,

@@ -2,8 +2,7 @@
 
 use crate::fault::ScriptFault;
 use crate::player::Player;
-use flatrepo::FlatRepo;
-use in_memory::InMemory;
+use flatrepo::{FlatRepo, InMemory};
 use script_lines::Line;
 use std::alloc::Global;
 use std::io::{self, BufRead, BufReader, BufWriter, Write};

@@ -1,7 +1,7 @@
 -- The steps that take a turn and that add an event in it keep the rule.
-use Rattle.std.proofs.Common.{◌≡◌, ℕ, zero, suc, ◌+◌, ◌<◌, ◌≤◌, ◌==◌, Bool, true, false, true≢false, List, [], ◌∷◌, ◌++◌, length, refl, ap, sym, subst, ◌∙◌, arith, inl, inr, ⊎_elim, length-append, None}
+use Rattle.std.proofs.Common.{◌≡◌, ℕ, zero, suc, ◌+◌, ◌<◌, ◌≤◌, ◌==◌, Bool, true, false, true≢false, List, [], ◌∷◌, ◌++◌, length, refl, ap, sym, subst, ◌∙◌}
+use Rattle.std.proofs.{Common.{arith, inl, inr, ⊎_elim, length-append, None, append_assoc}, lemmas.List.append-nil, lemmas.Bool.Decides.nat_tests}
 use Rattle.std.specs.Prelude.{replicate, slice_set}
-use Rattle.std.proofs.{Common.append_assoc, lemmas.List.append-nil, lemmas.Bool.Decides.nat_tests}
 use mathlib.Core.List.{IsPrefix}
 use prog.Atomic.{either}
 use Rattle.logbook.specs.Pages.{Cell, cell, adds, gives, keeps, may_make, nib, no_nib, step, Moves, Goes}

@@ -1,12 +1,13 @@
 -- A history goes on.
-use Rattle.std.proofs.Common.{◌≡◌, ℕ, ◌+◌, ◌<◌, ◌≤◌, ◌==◌, Bool, true, false, true≢false, List, [], ◌∷◌, ◌++◌, length, Option, Some, None, refl, ap, sym, subst, ◌∙◌, arith, inl, inr, append_assoc, append-nil, le_refl, le_trans}
-use Rattle.std.proofs.{Common.length-append, lemmas.Bool.Decides.nat_tests}
+use Rattle.std.proofs.Common.{◌≡◌, ℕ, ◌+◌, ◌<◌, ◌≤◌, ◌==◌, Bool, true, false, true≢false, List, [], ◌∷◌, ◌++◌, length, Option, Some, None, refl, ap, sym, subst}
+use Rattle.std.proofs.{Common.{◌∙◌, arith, inl, inr, append_assoc, append-nil, le_refl, le_trans, length-append}, lemmas.Bool.Decides.nat_tests}
 use Rattle.std.specs.Prelude.{if◌then◌else◌}
 use mathlib.Core.List.{IsPrefix}
 use Rattle.repo_api.specs.{Accepted.{Accepted, changed, changed_all}, Soundness.AreSound, States.RepoState}
 use Rattle.access.specs.{Changing.IsUnchanged, Points.{HasRisen, last_count}}
 use Rattle.published.specs.{Changes.{IsRight, AreRight}, Events.{Event, first_in, changes_in, own_in, count_in, state_of, moment_of, MayAllFollow, IsHistory}}
-use Rattle.published.specs.{Events.{Told, told, told_by, told_from, told_in}, Events.Event.{Opened, Makes, Fails}, Moments.{ListGoesOn, added, changed_more, all_sound}}
+use Rattle.published.specs.{Events.{Told, told, told_by, told_from, told_in}, Events.Event.{Opened, Makes, Fails}}
+use Rattle.published.specs.Moments.{ListGoesOn, added, changed_more, all_sound}
 
 -- ---- one list of events behind another
 

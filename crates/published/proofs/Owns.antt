@@ -1,9 +1,10 @@
 -- What an author has made.
-use Rattle.std.proofs.Common.{◌≡◌, ℕ, ◌+◌, ◌<◌, ◌≤◌, ◌==◌, Bool, true, false, List, [], ◌∷◌, ◌++◌, length, refl, ap, sym, subst, ◌∙◌, arith, append-nil, append_assoc}
+use Rattle.std.proofs.Common.{◌≡◌, ℕ, ◌+◌, ◌<◌, ◌≤◌, ◌==◌, Bool, true, false, List, [], ◌∷◌, ◌++◌, length, refl, ap, sym, subst, ◌∙◌, arith, append-nil}
+use Rattle.std.proofs.Common.{append_assoc}
 use Rattle.std.specs.Prelude.{if◌then◌else◌}
 use mathlib.Core.List.{IsPrefix}
 use Rattle.repo_api.specs.Accepted.{Accepted}
-use Rattle.published.specs.{Authors.{GrowsBy}, Events.{Event, own_in, count_in, moment_of}, Events.Event.{Opened, Makes, Fails}, Moments.{GoesOn, ListGoesOn}}
+use Rattle.published.specs.{Authors.GrowsBy, Events.{Event, own_in, count_in, moment_of}, Events.Event.{Opened, Makes, Fails}, Moments.{GoesOn, ListGoesOn}}
 use Rattle.published.proofs.Histories.{own_more, count_more, longer_yet, same_number}
 
 one_at_most : (b : Bool) (n m : ℕ) → n ≤ m → (if b then 1 else 0) + n ≤ m + 1

@@ -1,6 +1,6 @@
 -- What a list of changes has at a path and beneath it.
-use Rattle.std.proofs.Common.{◌≡◌, ◌<◌, arith, ℕ, zero, suc, Bool, true, false, cond, List, [], ◌∷◌, ◌++◌, find, length, drop, Option, Some, None, option_map, slice_index_or, refl, sym, ap, ◌∙◌, subst}
-use Rattle.std.proofs.{lemmas.Bool.{false≢true, or_from, or_parts}, lemmas.List.append_assoc}
+use Rattle.std.proofs.Common.{◌≡◌, ◌<◌, arith, ℕ, zero, suc, Bool, true, false, cond, List, [], ◌∷◌, ◌++◌, find, length, drop, Option, Some, None, option_map}
+use Rattle.std.proofs.{Common.{slice_index_or, refl, sym, ap, ◌∙◌, subst}, lemmas.Bool.{false≢true, or_from, or_parts}, lemmas.List.append_assoc}
 use Rattle.std.specs.{List.list_any, Prelude.slice_get}
 use Rattle.svnpath.specs.PathLaws.{rest_append, same_component_refl, same_path_is, under_append, under_is, under_itself}
 use Rattle.svnpath.specs.Paths.{Component, is_at_or_under, PathValue, same_component, same_path}

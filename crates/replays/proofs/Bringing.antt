@@ -1,17 +1,19 @@
 -- The commands of an entry bring a mirror from what it had there to what a revision has.
-use Rattle.std.proofs.Common.{◌≡◌, ℕ, Bool, true, false, List, [], ◌∷◌, ◌++◌, length, Option, Some, None, option_map, refl, sym, ap, subst, ◌∙◌, append-nil, if◌then◌else◌}
-use Rattle.std.proofs.lemmas.Bool.{false≢true}
-use Rattle.std.specs.{FinMap.get, Prelude.{IsTrue}}
-use Rattle.svnpath.specs.{Paths.{is_at_or_under, PathValue}}
-use Rattle.repo_api.specs.{Kinds.{content_kind, kind_at, kind_of, node_properties, or_empty}, Properties.property_value, Soundness.AreTrees, States.{RepoState, tree_at, trees_in}, Trees.{content_text, is_directory, is_directory_content, text_of}}
+use Rattle.std.proofs.Common.{◌≡◌, ℕ, Bool, true, false, List, [], ◌∷◌, ◌++◌, length, Option, Some, None, option_map, refl, sym, ap, subst, ◌∙◌, append-nil}
+use Rattle.std.proofs.{Common.if◌then◌else◌, lemmas.Bool.false≢true}
+use Rattle.std.specs.{FinMap.get, Prelude.IsTrue}
+use Rattle.svnpath.specs.Paths.{is_at_or_under, PathValue}
+use Rattle.repo_api.specs.{Kinds.{content_kind, kind_at, kind_of, node_properties, or_empty}, Properties.property_value, Soundness.AreTrees}
+use Rattle.repo_api.specs.{States.{RepoState, tree_at, trees_in}, Trees.{content_text, is_directory, is_directory_content, text_of}}
 use Rattle.repo_api.specs.{declared.entry.Content.Content, declared.entry.Content.TheVariants.{Directory, File}, declared.entry.Entry.Entry}
 use Rattle.traces.specs.declared.place.Place.{Place}
 use Rattle.wire_edits.specs.declared.editing.EditorCommand.{EditorCommand}
 use Rattle.wire_deltas.specs.Texts.{text_or_empty}
-use Rattle.replays.specs.{Commands.{close_command, own_commands, text_there, token_of}, Edits.Inside, Mirrors.{AreSameNodes, is_directory_at, Node, Nodes, nodes_of, Opened, text_at}}
-use Rattle.replays.specs.{Places.{is_in_part, is_of_kind, place_in}, declared.ask.ReplayAsk.ReplayAsk}
-use Rattle.replays.proofs.{Having.{Has, none_in_file}}
-use Rattle.replays.proofs.{Leading.{HasBeneath, IsBeneath, IsBody}, Mirroring.{directory_closed, file_closed, Leads, leads_on, leads_one, upon}, Owned.{IsContentOf, IsFrom, IsGiven}}
+use Rattle.replays.specs.{Commands.{close_command, own_commands, text_there, token_of}, Edits.Inside}
+use Rattle.replays.specs.{Mirrors.{AreSameNodes, is_directory_at, Node, Nodes, nodes_of, Opened, text_at}, Places.{is_in_part, is_of_kind, place_in}}
+use Rattle.replays.specs.declared.ask.ReplayAsk.{ReplayAsk}
+use Rattle.replays.proofs.{Having.{Has, none_in_file}, Leading.{HasBeneath, IsBeneath, IsBody}}
+use Rattle.replays.proofs.{Mirroring.{directory_closed, file_closed, Leads, leads_on, leads_one, upon}, Owned.{IsContentOf, IsFrom, IsGiven}}
 
 -- commands, in the directory of an entry, bring the entry
 pub record IsBrought (c : RepoState) (ask : ReplayAsk) (r : ℕ) (t : Nodes) (token : List ℕ) (p : PathValue) (os : List Opened) (q : PathValue) (commands : List EditorCommand) : Type 0 where

@@ -1,11 +1,12 @@
 -- Entries that are deleted, opened and added in a mirror.
-use Rattle.std.proofs.Common.{◌≡◌, ℕ, ◌-◌, ◌+◌, Bool, true, false, not, ◌&&◌, List, [], ◌∷◌, ◌++◌, length, take, Option, Some, None, option_map, refl, sym, ap, ◌∙◌, arith, if◌then◌else◌}
-use Rattle.std.proofs.{lemmas.List.length_push, Math.Seq.take-append_seam}
+use Rattle.std.proofs.Common.{◌≡◌, ℕ, ◌-◌, ◌+◌, Bool, true, false, not, ◌&&◌, List, [], ◌∷◌, ◌++◌, length, take, Option, Some, None, option_map, refl, sym, ap}
+use Rattle.std.proofs.{Common.{◌∙◌, arith, if◌then◌else◌}, lemmas.List.length_push, Math.Seq.take-append_seam}
 use Rattle.std.specs.Prelude.{is_some}
-use Rattle.svnpath.specs.{PathLaws.{same_component_refl, same_path_refl}, Paths.{Component, PathValue, same_component, same_path}, Texts.{path_text}}
+use Rattle.svnpath.specs.{PathLaws.{same_component_refl, same_path_refl}, Paths.{Component, PathValue, same_component, same_path}, Texts.path_text}
 use Rattle.repo_api.specs.{Trees.Tree, declared.entry.Content.Content, declared.entry.Content.TheVariants.{Directory, File}}
 use Rattle.traces.specs.declared.place.Place.{Place}
-use Rattle.replays.specs.{Commands.{add_command, delete_command, open_command, parent_token, token_of}, Mirrors.{adds_from, in_last, is_directory_at, mirrored, new_node, Nodes, nodes_of, Opened, with_copy, with_node}}
+use Rattle.replays.specs.Commands.{add_command, delete_command, open_command, parent_token, token_of}
+use Rattle.replays.specs.Mirrors.{adds_from, in_last, is_directory_at, mirrored, new_node, Nodes, nodes_of, Opened, with_copy, with_node}
 use Rattle.replays.proofs.{Mirroring.upon, Spelled.{IsNamed, spelled}}
 
 -- the directory of an entry is open

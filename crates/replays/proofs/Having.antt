@@ -1,9 +1,11 @@
 -- What a mirror has at a path and beneath it, by a place of the repository.
-use Rattle.std.proofs.Common.{◌≡◌, ℕ, zero, suc, Bool, true, false, ◌&&◌, ◌||◌, List, [], ◌∷◌, ◌++◌, length, drop, Option, Some, None, option_map, refl, sym, ap, subst, ◌∙◌, append-nil, append_assoc, if◌then◌else◌}
-use Rattle.std.proofs.lemmas.Bool.{false≢true}
+use Rattle.std.proofs.Common.{◌≡◌, ℕ, zero, suc, Bool, true, false, ◌&&◌, ◌||◌, List, [], ◌∷◌, ◌++◌, length, drop, Option, Some, None, option_map, refl, sym}
+use Rattle.std.proofs.{Common.{ap, subst, ◌∙◌, append-nil, append_assoc, if◌then◌else◌}, lemmas.Bool.false≢true}
 use Rattle.std.specs.{FinMap.get-empty, Prelude.{is_some, IsSome, IsSomeAnd, IsTrue}}
-use Rattle.svnpath.specs.{PathLaws.{rest_append, same_component_is, same_component_refl, under_append}, Paths.{Component, is_at_or_under, path_cmp, PathValue, same_component}}
-use Rattle.repo_api.specs.{Properties.property_value, Soundness.AreTrees, States.{RepoState, Revision, trees_in}, Trees.{is_directory, IsTree, Tree}, declared.entry.Entry.Entry}
+use Rattle.svnpath.specs.PathLaws.{rest_append, same_component_is, same_component_refl, under_append}
+use Rattle.svnpath.specs.Paths.{Component, is_at_or_under, path_cmp, PathValue, same_component}
+use Rattle.repo_api.specs.{Properties.property_value, Soundness.AreTrees, States.{RepoState, Revision, trees_in}, Trees.{is_directory, IsTree, Tree}}
+use Rattle.repo_api.specs.declared.entry.Entry.{Entry}
 use Rattle.traces.specs.declared.place.Place.{Place}
 use Rattle.replays.specs.{Mirrors.{AreSameNodes, Node, Nodes, nodes_of, with_copy}, Places.{child_of, is_in_part, place_in}, declared.ask.ReplayAsk.ReplayAsk}
 use Rattle.replays.proofs.{Entered.without, Runs.under_trans}

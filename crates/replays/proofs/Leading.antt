@@ -1,12 +1,14 @@
 -- What is told of an entry and of what is beneath it leads a mirror to the entry of a revision.
-use Rattle.std.proofs.Common.{◌≡◌, ℕ, Bool, true, false, List, [], ◌∷◌, ◌++◌, length, Option, Some, None, option_map, refl, sym, ap, subst, ◌∙◌, append-nil, if◌then◌else◌}
-use Rattle.std.proofs.lemmas.Bool.{false≢true}
-use Rattle.std.specs.{FinMap.get, Prelude.{IsTrue}}
+use Rattle.std.proofs.Common.{◌≡◌, ℕ, Bool, true, false, List, [], ◌∷◌, ◌++◌, length, Option, Some, None, option_map, refl, sym, ap, subst, ◌∙◌, append-nil}
+use Rattle.std.proofs.{Common.if◌then◌else◌, lemmas.Bool.false≢true}
+use Rattle.std.specs.{FinMap.get, Prelude.IsTrue}
 use Rattle.svnpath.specs.{PathLaws.{same_path_is, same_path-append, under_itself}, Paths.{Component, is_at_or_under, PathValue, same_path}}
-use Rattle.repo_api.specs.{Properties.property_value, Soundness.AreTrees, States.{RepoState, tree_at, trees_in}, Trees.{is_directory, is_directory_content}, declared.entry.Content.TheVariants.File, declared.entry.Entry.Entry}
+use Rattle.repo_api.specs.{Properties.property_value, Soundness.AreTrees, States.{RepoState, tree_at, trees_in}, Trees.{is_directory, is_directory_content}}
+use Rattle.repo_api.specs.{declared.entry.Content.TheVariants.File, declared.entry.Entry.Entry}
 use Rattle.traces.specs.declared.place.Place.{Place}
 use Rattle.wire_edits.specs.declared.editing.EditorCommand.{EditorCommand}
-use Rattle.replays.specs.{Commands.{own_commands, token_of}, Mirrors.{AreSameNodes, is_directory_at, Node, Nodes, nodes_of, Opened}, Places.{is_in_part, place_in}, declared.ask.ReplayAsk.ReplayAsk}
+use Rattle.replays.specs.{Commands.{own_commands, token_of}, Mirrors.{AreSameNodes, is_directory_at, Node, Nodes, nodes_of, Opened}}
+use Rattle.replays.specs.{Places.{is_in_part, place_in}, declared.ask.ReplayAsk.ReplayAsk}
 use Rattle.replays.proofs.{Having.{Has, none_in_file, of_place}, Mirroring.{Leads, leads_on, upon}, Owned.{IsEntry, IsFrom, IsGiven, IsTold, own_told}}
 
 -- beneath a path a mirror has what a place has

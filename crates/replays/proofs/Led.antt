@@ -1,18 +1,23 @@
 -- The commands of entries lead a mirror to a revision.
-use Rattle.std.proofs.Common.{◌≡◌, ℕ, Bool, true, false, not, ◌&&◌, ◌||◌, List, [], ◌∷◌, ◌++◌, Option, Some, None, option_map, refl, sym, ap, subst, ◌∙◌, if◌then◌else◌}
-use Rattle.std.proofs.{lemmas.Bool.false≢true}
+use Rattle.std.proofs.Common.{◌≡◌, ℕ, Bool, true, false, not, ◌&&◌, ◌||◌, List, [], ◌∷◌, ◌++◌, Option, Some, None, option_map, refl, sym, ap, subst, ◌∙◌}
+use Rattle.std.proofs.{Common.if◌then◌else◌, lemmas.Bool.false≢true}
 use Rattle.std.specs.{FinMap.get, Option.{option_or, unwrap_or}, Prelude.{is_some, IsTrue}}
-use Rattle.svnpath.specs.{PathLaws.{same_component_refl}, Paths.{Component, is_at_or_under, PathValue}}
-use Rattle.repo_api.specs.{Histories.history_of, Kinds.{content_kind, is_directory_kind, is_present, kind_at, kind_of}, Properties.property_value, Soundness.AreTrees, States.{RepoState, tree_at, trees_in}, Trees.{is_directory, is_directory_content}}
-use Rattle.repo_api.specs.{declared.change.Change.Change, declared.change.Source.Source, declared.entry.Content.Content, declared.entry.Content.TheVariants.{Directory, File}, declared.entry.Entry.Entry, declared.entry.NodeKind.NodeKind}
+use Rattle.svnpath.specs.{PathLaws.same_component_refl, Paths.{Component, is_at_or_under, PathValue}}
+use Rattle.repo_api.specs.{Histories.history_of, Kinds.{content_kind, is_directory_kind, is_present, kind_at, kind_of}, Properties.property_value}
+use Rattle.repo_api.specs.{Soundness.AreTrees, States.{RepoState, tree_at, trees_in}, Trees.{is_directory, is_directory_content}, declared.change.Change.Change}
+use Rattle.repo_api.specs.{declared.change.Source.Source, declared.entry.Content.Content, declared.entry.Content.TheVariants.{Directory, File}}
+use Rattle.repo_api.specs.{declared.entry.Entry.Entry, declared.entry.NodeKind.NodeKind}
 use Rattle.repo_api.specs.declared.entry.NodeKind.TheVariants as kinds
 use Rattle.traces.specs.declared.place.Place.{Place}
 use Rattle.file_histories.specs.Deleted.{is_modify}
 use Rattle.wire_edits.specs.declared.editing.EditorCommand.{EditorCommand}
-use Rattle.replays.specs.{Commands.{add_command, delete_command, is_empty, open_command}, Edits.{entry_commands, Inside}, Mirrors.{AreSameNodes, is_directory_at, Nodes, Opened}}
-use Rattle.replays.specs.{Places.{change_in, followed, has_text, is_in_part, is_new, is_of_kind, kept, kind_there, may_follow, place_in, source_in}, declared.ask.ReplayAsk.ReplayAsk}
-use Rattle.replays.proofs.{Bringing.{at_itself, AreGiven, body, Enters, IsBrought, IsLike, like_by, whole}, Entered.{entry_deleted, IsIn, without}, Standing.{copy_brings, kept_brings, new_brings}}
-use Rattle.replays.proofs.{Having.{copy_there, Has, has_deleted, has_none, has_outside, none_beneath, some_by}, Mirroring.{Leads, leads_on, leads_one, upon}}
+use Rattle.replays.specs.{Commands.{add_command, delete_command, is_empty, open_command}, Edits.{entry_commands, Inside}}
+use Rattle.replays.specs.Mirrors.{AreSameNodes, is_directory_at, Nodes, Opened}
+use Rattle.replays.specs.Places.{change_in, followed, has_text, is_in_part, is_new, is_of_kind, kept, kind_there, may_follow, place_in, source_in}
+use Rattle.replays.specs.declared.ask.ReplayAsk.{ReplayAsk}
+use Rattle.replays.proofs.{Bringing.{at_itself, AreGiven, body, Enters, IsBrought, IsLike, like_by, whole}, Entered.{entry_deleted, IsIn, without}}
+use Rattle.replays.proofs.{Standing.{copy_brings, kept_brings, new_brings}, Having.{copy_there, Has, has_deleted, has_none, has_outside, none_beneath, some_by}}
+use Rattle.replays.proofs.Mirroring.{Leads, leads_on, leads_one, upon}
 
 -- ---- the commands of an entry, by what becomes of it
 

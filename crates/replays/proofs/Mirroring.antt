@@ -1,15 +1,17 @@
 -- What commands make of a mirror, one after another.
-use Rattle.std.proofs.Common.{◌≡◌, ℕ, Bool, true, false, List, [], ◌∷◌, ◌++◌, map, Option, Some, None, option_map, refl, sym, ap, ◌∙◌, append-nil, append_assoc, if◌then◌else◌}
+use Rattle.std.proofs.Common.{◌≡◌, ℕ, Bool, true, false, List, [], ◌∷◌, ◌++◌, map, Option, Some, None, option_map, refl, sym, ap, ◌∙◌, append-nil, append_assoc}
+use Rattle.std.proofs.Common.{if◌then◌else◌}
 use Rattle.std.specs.{List.concat, Prelude.{option_and_then, Ok}}
 use Rattle.hex.specs.Hex.{encode_lower}
 use Rattle.md5.specs.Md5.{md5}
 use Rattle.svnpath.specs.{PathLaws.{same_component_refl, same_path_refl}, Paths.{PathValue, same_component, same_path}}
 use Rattle.svndiff0.specs.Document.{document_text}
-use Rattle.repo_api.specs.{Trees.Tree, declared.entry.Content.TheVariants.{File}}
+use Rattle.repo_api.specs.{Trees.Tree, declared.entry.Content.TheVariants.File}
 use Rattle.wire_edits.specs.declared.editing.EditorCommand.{EditorCommand}
 use Rattle.wire_edits.specs.declared.editing.EditorCommand.TheVariants.{ApplyTextDelta, TextDeltaChunk, TextDeltaEnd, CloseDirectory, CloseFile}
 use Rattle.wire_deltas.specs.Texts.{text_commands}
-use Rattle.replays.specs.{Commands.property_command, Mirrors.{all_mirrored, closes_file, ends_delta, Mirror, mirrored, Node, Nodes, Opened, sets_text, text_at, with_node, with_value}}
+use Rattle.replays.specs.Commands.{property_command}
+use Rattle.replays.specs.Mirrors.{all_mirrored, closes_file, ends_delta, Mirror, mirrored, Node, Nodes, Opened, sets_text, text_at, with_node, with_value}
 use Rattle.replays.proofs.Values.{with_values}
 
 -- ---- commands one after another

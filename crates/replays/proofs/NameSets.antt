@@ -1,6 +1,6 @@
 -- Sets of names, and the names of what stands straight beneath a path.
-use Rattle.std.proofs.Common.{◌≡◌, arith, ℕ, zero, suc, ◌≤◌, Bool, true, false, cond, ◌||◌, List, [], ◌∷◌, ◌++◌, length, drop, map, take, Option, Some, None, refl, sym, ap, ◌∙◌}
-use Rattle.std.proofs.lemmas.Bool.{false≢true, or_left, or_right}
+use Rattle.std.proofs.Common.{◌≡◌, arith, ℕ, zero, suc, ◌≤◌, Bool, true, false, cond, ◌||◌, List, [], ◌∷◌, ◌++◌, length, drop, map, take, Option, Some, None}
+use Rattle.std.proofs.{Common.{refl, sym, ap, ◌∙◌}, lemmas.Bool.{false≢true, or_left, or_right}}
 use Rattle.std.specs.{BTreeMap.is_at, BTreeSet.insert_key, Cmp.Lexicographic.{slice_cmp, texts_ties}, List.{list_any, cons_option}}
 use Rattle.std.specs.{Ordering.{nat_cmp, is_eq, match_ordering}, Prelude.IsSome, FinMap.{get, keys, contains_key-keys}, declared.cmp.Ordering.Ordering}
 use Rattle.std.specs.declared.cmp.Ordering.TheVariants.{Less, Equal, Greater}

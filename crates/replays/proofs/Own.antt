@@ -5,7 +5,8 @@ use Rattle.repo_api.specs.{Kinds.text_at, States.RepoState}
 use Rattle.traces.specs.declared.place.Place.{Place}
 use Rattle.file_histories.specs.Differing.{differing}
 use Rattle.wire_replies.specs.Sinks.{WritesPart, Writes}
-use Rattle.replays.specs.{Commands.{changes_sent, is_empty, own_commands, properties_there, property_command, text_there, text_told_commands, token_of, told_if_other}, Sending.command_bytes, declared.ask.ReplayAsk.ReplayAsk}
+use Rattle.replays.specs.Commands.{changes_sent, is_empty, own_commands, properties_there, property_command, text_there, text_told_commands, token_of}
+use Rattle.replays.specs.{Commands.told_if_other, Sending.command_bytes, declared.ask.ReplayAsk.ReplayAsk}
 use Rattle.replays.proofs.Written.{first_part, sent_behind}
 
 -- the changes of properties that are to be sent, and the text

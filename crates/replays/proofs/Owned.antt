@@ -1,18 +1,21 @@
 -- What is told of an entry itself leads a mirror from what it has of the entry to the entry.
-use Rattle.std.proofs.Common.{◌≡◌, ℕ, Bool, true, false, not, ◌||◌, List, [], ◌∷◌, ◌++◌, length, map, Option, Some, None, option_map, refl, sym, ap, subst, ◌∙◌, if◌then◌else◌}
-use Rattle.std.proofs.lemmas.Bool.{false≢true}
+use Rattle.std.proofs.Common.{◌≡◌, ℕ, Bool, true, false, not, ◌||◌, List, [], ◌∷◌, ◌++◌, length, map, Option, Some, None, option_map, refl, sym, ap, subst, ◌∙◌}
+use Rattle.std.proofs.{Common.if◌then◌else◌, lemmas.Bool.false≢true}
 use Rattle.std.specs.{FinMap.get, List.concat, Prelude.Ok}
 use Rattle.svnpath.specs.{PathLaws.same_component_is, Paths.{PathValue, same_path}}
 use Rattle.svndiff0.specs.Document.{document_text}
-use Rattle.repo_api.specs.{Kinds.{node_properties, or_empty, text_at as text_stored}, Properties.{property_value}, States.{RepoState, tree_at}, Trees.{content_text, is_directory, text_of, Tree}}
-use Rattle.repo_api.specs.{declared.entry.Content.Content, declared.entry.Content.TheVariants.{Directory, File}, declared.entry.Entry.Entry}
+use Rattle.repo_api.specs.{Kinds.{node_properties, or_empty, text_at as text_stored}, Properties.property_value, States.{RepoState, tree_at}}
+use Rattle.repo_api.specs.{Trees.{content_text, is_directory, text_of, Tree}, declared.entry.Content.Content}
+use Rattle.repo_api.specs.{declared.entry.Content.TheVariants.{Directory, File}, declared.entry.Entry.Entry}
 use Rattle.traces.specs.declared.place.Place.{Place}
 use Rattle.file_histories.specs.Differing.{differing}
 use Rattle.text_deltas.specs.Deltas.{delta_chunks}
 use Rattle.wire_edits.specs.declared.editing.EditorCommand.{EditorCommand}
 use Rattle.wire_forms.specs.Forms.{is_name}
-use Rattle.replays.specs.{Commands.{changes_sent, own_commands, properties_there, property_command, text_there, text_told_commands, token_of, told_if_other}, Mirrors.{all_mirrored, Node, Nodes, Opened, text_at}, Places.place_in, declared.ask.ReplayAsk.ReplayAsk}
-use Rattle.replays.proofs.{Mirroring.{all_here, all_set, all_there, Leads, leads_on, node_here, node_there, properties_set, text_set, upon, with_text}, Values.{kept_content, values_after, with_values}}
+use Rattle.replays.specs.Commands.{changes_sent, own_commands, properties_there, property_command, text_there, text_told_commands, token_of, told_if_other}
+use Rattle.replays.specs.{Mirrors.{all_mirrored, Node, Nodes, Opened, text_at}, Places.place_in, declared.ask.ReplayAsk.ReplayAsk}
+use Rattle.replays.proofs.Mirroring.{all_here, all_set, all_there, Leads, leads_on, node_here, node_there, properties_set, text_set, upon, with_text}
+use Rattle.replays.proofs.Values.{kept_content, values_after, with_values}
 
 -- over any text a delta gives this one
 abbrev pub IsGiven : List ℕ → Type 0

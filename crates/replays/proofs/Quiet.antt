@@ -1,11 +1,11 @@
 -- Entries of which nothing is said.
-use Rattle.std.proofs.Common.{◌≡◌, ◌⊎◌, inl, inr, ⊎_elim, arith, ℕ, zero, suc, ◌-◌, Bool, true, false, cond, ◌&&◌, ◌||◌, not, List, [], ◌∷◌, ◌++◌, filter, flat_map, length, map, Option, Some, None, is_some, refl, sym, ap, ◌∙◌, if◌then◌else◌}
-use Rattle.std.proofs.lemmas.{Bool.{false≢true, or_parts}, List.{append-nil, append_assoc}, List.Folds.list_any-append}
-use Rattle.std.specs.{FinMap.get}
+use Rattle.std.proofs.Common.{◌≡◌, ◌⊎◌, inl, inr, ⊎_elim, arith, ℕ, zero, suc, ◌-◌, Bool, true, false, cond, ◌&&◌, ◌||◌, not, List, [], ◌∷◌, ◌++◌, filter}
+use Rattle.std.proofs.{Common.{flat_map, length, map, Option, Some, None, is_some, refl, sym, ap, ◌∙◌, if◌then◌else◌}, lemmas.Bool.{false≢true, or_parts}}
+use Rattle.std.proofs.{lemmas.List.{append-nil, append_assoc}, lemmas.List.Folds.list_any-append}
+use Rattle.std.specs.FinMap.{get}
 use Rattle.svnpath.specs.{PathLaws.{same_component_refl, under_append}, Paths.{Component, PathValue, same_component}}
 use Rattle.repo_api.specs.{Histories.{Changed, history_of}, Readings.{is_name_among, IsSameAt, names_at}, States.{RepoState, tree_at, trees_in}}
-use Rattle.repo_api.specs.Kinds.{is_present, kind_at, kind_of, node_properties, or_empty, text_of}
-use Rattle.repo_api.specs.Properties.{is_same_value, property_value, PropertyList}
+use Rattle.repo_api.specs.{Kinds.{is_present, kind_at, kind_of, node_properties, or_empty, text_of}, Properties.{is_same_value, property_value, PropertyList}}
 use Rattle.repo_api.specs.{declared.change.Change.Change, declared.entry.Entry.Entry, declared.entry.NodeKind.NodeKind}
 use Rattle.repo_api.specs.declared.entry.NodeKind.TheVariants as kinds
 use Rattle.traces.specs.declared.place.Place.{Place}
@@ -14,10 +14,9 @@ use Rattle.wire_edits.specs.declared.editing.EditorCommand.{EditorCommand}
 use Rattle.wire_deltas.specs.Texts.{text_or_empty}
 use Rattle.replays.specs.Commands.{changes_sent, delete_command, is_empty, own_commands, property_command, text_told_commands, token_of, told_if_other}
 use Rattle.replays.specs.Edits.{below, body_of, entry_commands, Inside, is_named, names_of, names_there, standing_commands}
-use Rattle.replays.specs.Places.{change_in, child_of, is_in_part, is_of_kind, kept, kind_there, place_in, run_at}
-use Rattle.replays.specs.{Shaping.{shape_at, shape_by}, Visiting.{HasNothingAt, IsNowhere, IsQuietName}, declared.ask.ReplayAsk.ReplayAsk, declared.places.Shape.Shape}
-use Rattle.replays.proofs.Joined.{among_of, AreInOrder, joined, order_of}
-use Rattle.replays.proofs.NameSets.{among_there}
+use Rattle.replays.specs.{Places.{change_in, child_of, is_in_part, is_of_kind, kept, kind_there, place_in, run_at}, Shaping.{shape_at, shape_by}}
+use Rattle.replays.specs.{Visiting.{HasNothingAt, IsNowhere, IsQuietName}, declared.ask.ReplayAsk.ReplayAsk, declared.places.Shape.Shape}
+use Rattle.replays.proofs.{Joined.{among_of, AreInOrder, joined, order_of}, NameSets.among_there}
 use Rattle.replays.proofs.Beneath.{has_at, no_change, none_beneath, none_from, none_in_run}
 
 -- a revision has at a path what the client has at a place, and its list has nothing there or beneath

@@ -1,16 +1,23 @@
 -- The edit of a revision leads a mirror of the revision before to the revision.
-use Rattle.std.proofs.Common.{arith, ◌≡◌, ◌<◌, ◌≤◌, ◌+◌, ◌-◌, ℕ, zero, suc, Bool, true, false, not, ◌&&◌, ◌||◌, List, [], ◌∷◌, ◌++◌, flat_map, drop, length, Option, Some, None, option_map, refl, sym, ap, subst, ◌∙◌, append_assoc, if◌then◌else◌}
-use Rattle.std.proofs.{lemmas.Bool.false≢true, lemmas.List.length_push, lemmas.List.Elements.{All-append, All-drop}, lemmas.Map.Keys.{sorted_head, sorted_tail}}
-use Rattle.std.specs.{Cmp.Lexicographic.texts_ties, FinMap.{contains_key-keys, get, keys}, List.{AllByRecursion, cons_option, list_any}, Option.unwrap_or, Ordering.is_eq, Prelude.{All, is_some, IsSomeAnd, IsTrue}, declared.cmp.Ordering.TheVariants.Less}
-use Rattle.svnpath.specs.{Components.IsComponent, PathLaws.{rest_append, same_component_is, same_component_refl, same_path_refl, under_append, under_is}, Paths.{Component, is_at_or_under, path_ties, PathValue, same_component, same_path}, declared.component.TheConstants.DEPTH_LIMIT}
-use Rattle.repo_api.specs.{Histories.history_of, Properties.property_value, Readings.{is_name_among, name_in, names_among, names_at, names_in, sole}, Soundness.AreTrees, States.{RepoState, Revision, tree_at, TreeMap, trees_in}, Trees.{is_directory, IsTree}, declared.change.Change.Change, declared.entry.Entry.Entry}
+use Rattle.std.proofs.Common.{arith, ◌≡◌, ◌<◌, ◌≤◌, ◌+◌, ◌-◌, ℕ, zero, suc, Bool, true, false, not, ◌&&◌, ◌||◌, List, [], ◌∷◌, ◌++◌, flat_map, drop, length}
+use Rattle.std.proofs.{Common.{Option, Some, None, option_map, refl, sym, ap, subst, ◌∙◌, append_assoc, if◌then◌else◌}, lemmas.Bool.false≢true}
+use Rattle.std.proofs.{lemmas.List.length_push, lemmas.List.Elements.{All-append, All-drop}, lemmas.Map.Keys.{sorted_head, sorted_tail}}
+use Rattle.std.specs.{Cmp.Lexicographic.texts_ties, FinMap.{contains_key-keys, get, keys}, List.{AllByRecursion, cons_option, list_any}, Option.unwrap_or}
+use Rattle.std.specs.{Ordering.is_eq, Prelude.{All, is_some, IsSomeAnd, IsTrue}, declared.cmp.Ordering.TheVariants.Less}
+use Rattle.svnpath.specs.{Components.IsComponent, PathLaws.{rest_append, same_component_is, same_component_refl, same_path_refl, under_append, under_is}}
+use Rattle.svnpath.specs.{Paths.{Component, is_at_or_under, path_ties, PathValue, same_component, same_path}, declared.component.TheConstants.DEPTH_LIMIT}
+use Rattle.repo_api.specs.{Histories.history_of, Properties.property_value, Readings.{is_name_among, name_in, names_among, names_at, names_in, sole}}
+use Rattle.repo_api.specs.{Soundness.AreTrees, States.{RepoState, Revision, tree_at, TreeMap, trees_in}, Trees.{is_directory, IsTree}}
+use Rattle.repo_api.specs.{declared.change.Change.Change, declared.entry.Entry.Entry}
 use Rattle.traces.specs.declared.place.Place.{Place}
-use Rattle.wire_edits.specs.declared.editing.EditorCommand.{EditorCommand}
-use Rattle.wire_edits.specs.declared.editing.EditorCommand.TheVariants.{OpenRoot, TargetRevision}
-use Rattle.replays.specs.{Commands.{is_empty, token_of}, Edits.{below, edit_commands, entry_commands, Inside, names_of, names_there}, Mirrors.{all_mirrored, AreSameInPart, AreSameNodes, is_directory_at, LeadsToRevision, Mirror, Nodes, nodes_of, Opened}}
+use Rattle.wire_edits.specs.{declared.editing.EditorCommand.EditorCommand, declared.editing.EditorCommand.TheVariants.{OpenRoot, TargetRevision}}
+use Rattle.replays.specs.{Commands.{is_empty, token_of}, Edits.{below, edit_commands, entry_commands, Inside, names_of, names_there}}
+use Rattle.replays.specs.Mirrors.{all_mirrored, AreSameInPart, AreSameNodes, is_directory_at, LeadsToRevision, Mirror, Nodes, nodes_of, Opened}
 use Rattle.replays.specs.{Places.{change_in, child_of, has_text, is_in_part, place_in}, declared.ask.ReplayAsk.ReplayAsk}
-use Rattle.replays.proofs.{Bringing.{AreGiven, at_itself, beneath_of, body, body_closed, Enters, IsBrought, IsLike, IsReady, ready_by, whole}, Having.{Has, has_still, none_beneath, none_by, of_place, tree_where}, Joined.{among_of, AreInOrder, by_bytes, order_of}}
-use Rattle.replays.proofs.{Leading.{HasBeneath, IsBeneath, IsBody}, Led.entry_led, Mirroring.{Leads, leads_on, upon}, NameSets.among_there, Runs.under_trans, Standing.ready_body, Values.turned}
+use Rattle.replays.proofs.Bringing.{AreGiven, at_itself, beneath_of, body, body_closed, Enters, IsBrought, IsLike, IsReady, ready_by, whole}
+use Rattle.replays.proofs.{Having.{Has, has_still, none_beneath, none_by, of_place, tree_where}, Joined.{among_of, AreInOrder, by_bytes, order_of}}
+use Rattle.replays.proofs.{Leading.{HasBeneath, IsBeneath, IsBody}, Led.entry_led, Mirroring.{Leads, leads_on, upon}, NameSets.among_there, Runs.under_trans}
+use Rattle.replays.proofs.{Standing.ready_body, Values.turned}
 
 -- ---- names
 

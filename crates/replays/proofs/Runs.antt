@@ -1,9 +1,14 @@
 -- What a list of changes has at a path and beneath it is one run of it.
-use Rattle.std.proofs.{Common.{arith, ◌≡◌, ◌<◌, ◌≤◌, inl, inr, ℕ, zero, suc, Bool, true, false, cond, not, ◌&&◌, List, [], ◌∷◌, ◌++◌, length, take, drop, get_or, Option, Some, None, option_map, refl, sym, ap, subst, ◌∙◌, append_assoc}, lemmas.Bool.false≢true}
-use Rattle.std.proofs.{lemmas.List.{get_or-map, length-map}, lemmas.List.Elements.{All-get_or, All-head, filter_passes}, lemmas.List.Kept.IsStrictlySortedBy-filter, lemmas.Map.Keys.{Less-from_sorted, sorted_head}}
-use Rattle.std.specs.{FinMap.{FinMap, entries, entries_sorted}, FinMap.Entries.{is_sorted, below_all}, List.{All, AllByRecursion, filter, find}, List.Sorted.{IsPartitionedBy, IsPartitionPoint, IsStrictlySortedBy}}
-use Rattle.std.specs.{Map.keys_of, Option.unwrap_or, Ordering.{is_le, is_lt, ordering_reverse}, Prelude.{◌⊎◌, T, if◌then◌else◌, is_some, slice_get}, declared.cmp.Ordering.Ordering, declared.cmp.Ordering.TheVariants.{Less, Equal, Greater}}
-use Rattle.svnpath.specs.{PathLaws.{between_under, from_under, same_path_is, under_append, under_is, under_itself}, Paths.{is_at_or_under, path_cmp, path_cmp_total, PathValue, same_path}}
+use Rattle.std.proofs.Common.{arith, ◌≡◌, ◌<◌, ◌≤◌, inl, inr, ℕ, zero, suc, Bool, true, false, cond, not, ◌&&◌, List, [], ◌∷◌, ◌++◌, length, take, drop, get_or}
+use Rattle.std.proofs.{Common.{Option, Some, None, option_map, refl, sym, ap, subst, ◌∙◌, append_assoc}, lemmas.Bool.false≢true}
+use Rattle.std.proofs.{lemmas.List.{get_or-map, length-map}, lemmas.List.Elements.{All-get_or, All-head, filter_passes}}
+use Rattle.std.proofs.{lemmas.List.Kept.IsStrictlySortedBy-filter, lemmas.Map.Keys.{Less-from_sorted, sorted_head}}
+use Rattle.std.specs.{FinMap.{FinMap, entries, entries_sorted}, FinMap.Entries.{is_sorted, below_all}, List.{All, AllByRecursion, filter, find}}
+use Rattle.std.specs.{List.Sorted.{IsPartitionedBy, IsPartitionPoint, IsStrictlySortedBy}, Map.keys_of, Option.unwrap_or}
+use Rattle.std.specs.{Ordering.{is_le, is_lt, ordering_reverse}, Prelude.{◌⊎◌, T, if◌then◌else◌, is_some, slice_get}, declared.cmp.Ordering.Ordering}
+use Rattle.std.specs.declared.cmp.Ordering.TheVariants.{Less, Equal, Greater}
+use Rattle.svnpath.specs.PathLaws.{between_under, from_under, same_path_is, under_append, under_is, under_itself}
+use Rattle.svnpath.specs.Paths.{is_at_or_under, path_cmp, path_cmp_total, PathValue, same_path}
 use Rattle.repo_api.specs.{Histories.{Changed, changes_in, history_of}, States.{RepoState, Revision}}
 use Rattle.replays.specs.Places.{change_in, run_at}
 

@@ -1,16 +1,20 @@
 -- An entry that is deleted, and one that is to stand there.
-use Rattle.std.proofs.Common.{◌≡◌, ℕ, Bool, true, false, not, ◌||◌, List, [], ◌∷◌, ◌++◌, length, Option, Some, None, option_map, refl, sym, ap, subst, ◌∙◌, append-nil, if◌then◌else◌}
-use Rattle.std.proofs.lemmas.Bool.{false≢true}
-use Rattle.std.specs.{FinMap.get, Option.{unwrap_or}, Prelude.{is_some, IsTrue}}
+use Rattle.std.proofs.Common.{◌≡◌, ℕ, Bool, true, false, not, ◌||◌, List, [], ◌∷◌, ◌++◌, length, Option, Some, None, option_map, refl, sym, ap, subst, ◌∙◌}
+use Rattle.std.proofs.{Common.{append-nil, if◌then◌else◌}, lemmas.Bool.false≢true}
+use Rattle.std.specs.{FinMap.get, Option.unwrap_or, Prelude.{is_some, IsTrue}}
 use Rattle.svnpath.specs.{PathLaws.{same_path_is, same_path-append, under_itself}, Paths.{Component, is_at_or_under, PathValue, same_path}}
-use Rattle.repo_api.specs.{Properties.property_value, Soundness.AreTrees, States.{RepoState, tree_at, trees_in}, Trees.{content_text, is_directory, is_directory_content, text_of}}
-use Rattle.repo_api.specs.{declared.entry.Content.Content, declared.entry.Content.TheVariants.{Directory, File}, declared.entry.Entry.Entry}
+use Rattle.repo_api.specs.{Properties.property_value, Soundness.AreTrees, States.{RepoState, tree_at, trees_in}}
+use Rattle.repo_api.specs.{Trees.{content_text, is_directory, is_directory_content, text_of}, declared.entry.Content.Content}
+use Rattle.repo_api.specs.{declared.entry.Content.TheVariants.{Directory, File}, declared.entry.Entry.Entry}
 use Rattle.traces.specs.declared.place.Place.{Place}
 use Rattle.wire_edits.specs.declared.editing.EditorCommand.{EditorCommand}
-use Rattle.replays.specs.{Commands.{add_command, is_empty, open_command, token_of}, Edits.Inside, Mirrors.{all_mirrored, AreSameNodes, is_directory_at, Mirror, mirrored, new_node, Node, Nodes, nodes_of, Opened, with_copy, with_node}}
+use Rattle.replays.specs.{Commands.{add_command, is_empty, open_command, token_of}, Edits.Inside}
+use Rattle.replays.specs.Mirrors.{all_mirrored, AreSameNodes, is_directory_at, Mirror, mirrored, new_node, Node, Nodes, nodes_of, Opened, with_copy, with_node}
 use Rattle.replays.specs.{Places.{is_in_part, place_in}, declared.ask.ReplayAsk.ReplayAsk}
-use Rattle.replays.proofs.{Bringing.{at_itself, AreGiven, beneath_of, body, body_closed, clear_of, Enters, IsBrought, IsLike, IsReady, ready_by, whole}, Entered.{directory_opened, entry_added, entry_copied, file_opened, IsIn, new_content}}
-use Rattle.replays.proofs.{Having.{copy_there, Has, has_copied, some_by, tree_where}, Leading.{body_led, HasBeneath, IsBody}, Mirroring.{leads_first, node_here, node_there, upon}, Owned.{IsContentOf}}
+use Rattle.replays.proofs.Bringing.{at_itself, AreGiven, beneath_of, body, body_closed, clear_of, Enters, IsBrought, IsLike, IsReady, ready_by, whole}
+use Rattle.replays.proofs.Entered.{directory_opened, entry_added, entry_copied, file_opened, IsIn, new_content}
+use Rattle.replays.proofs.{Having.{copy_there, Has, has_copied, some_by, tree_where}, Leading.{body_led, HasBeneath, IsBody}}
+use Rattle.replays.proofs.{Mirroring.{leads_first, node_here, node_there, upon}, Owned.IsContentOf}
 
 -- ---- the body of an entry that is open
 

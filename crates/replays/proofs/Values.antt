@@ -1,6 +1,6 @@
 -- The changes of properties lead from the old values to the new ones.
-use Rattle.std.proofs.Common.{◌≡◌, ℕ, Bool, true, false, cond, ◌||◌, not, List, [], ◌∷◌, Option, Some, None, refl, sym, ap, ◌∙◌}
-use Rattle.std.proofs.{Common.Ordering, lemmas.Bool.false≢true}
+use Rattle.std.proofs.Common.{◌≡◌, ℕ, Bool, true, false, cond, ◌||◌, not, List, [], ◌∷◌, Option, Some, None, refl, sym, ap, ◌∙◌, Ordering}
+use Rattle.std.proofs.lemmas.Bool.{false≢true}
 use Rattle.std.specs.{Prelude.{map, filter}, BTreeMap.is_at, Cmp.both_ways, Cmp.Lexicographic.{slice_cmp, texts_ties}, List.list_any}
 use Rattle.std.specs.{Ordering.{nat_cmp, is_eq, match_ordering}, declared.cmp.Ordering.TheVariants.{Less, Equal, Greater}}
 use Rattle.svnpath.specs.{PathLaws.{same_component_is, same_component_refl}, Paths.same_component}

@@ -1,15 +1,15 @@
 -- The commands of an entry, by what becomes of it.
-use Rattle.std.proofs.Common.{◌≡◌, ℕ, suc, Bool, true, false, ◌||◌, not, List, [], ◌∷◌, ◌++◌, Option, is_some, refl, sym, ap, ◌∙◌, append-nil, append_assoc, if◌then◌else◌}
-use Rattle.std.proofs.lemmas.Bool.{false≢true}
+use Rattle.std.proofs.Common.{◌≡◌, ℕ, suc, Bool, true, false, ◌||◌, not, List, [], ◌∷◌, ◌++◌, Option, is_some, refl, sym, ap, ◌∙◌, append-nil, append_assoc}
+use Rattle.std.proofs.{Common.if◌then◌else◌, lemmas.Bool.false≢true}
 use Rattle.std.specs.Prelude.{Err, IfOk, None, Ok, Result}
 use Rattle.svnpath.specs.{Paths.PathValue, declared.component.TheConstants.DEPTH_LIMIT}
 use Rattle.repo_api.specs.{Histories.history_of, Kinds.{is_directory_kind, is_present}, States.RepoState}
 use Rattle.traces.specs.declared.place.Place.{Place}
-use Rattle.wire_edits.specs.declared.editing.EditorCommand.{EditorCommand}
-use Rattle.wire_edits.specs.declared.editing.EditorCommand.TheVariants.{OpenRoot}
+use Rattle.wire_edits.specs.{declared.editing.EditorCommand.EditorCommand, declared.editing.EditorCommand.TheVariants.OpenRoot}
 use Rattle.replays.specs.Commands.{add_command, close_command, delete_command, is_empty, open_command, own_commands, token_of}
 use Rattle.replays.specs.Edits.{below, body_of, entry_commands, Inside, inside_commands, is_named, root_commands, standing_commands}
-use Rattle.replays.specs.{Places.{change_in, is_in_part, place_in}, Shaping.{base_of, root_shape, shape_at}, declared.ask.ReplayAsk.ReplayAsk, declared.places.Shape.Shape}
+use Rattle.replays.specs.{Places.{change_in, is_in_part, place_in}, Shaping.{base_of, root_shape, shape_at}, declared.ask.ReplayAsk.ReplayAsk}
+use Rattle.replays.specs.declared.places.Shape.{Shape}
 use Rattle.replays.proofs.Quiet.{entry_of}
 
 pub chosen : {X : Type 0} (b : Bool) (x y : X) → b ≡ true → (if b then x else y) ≡ x

@@ -7,8 +7,9 @@ use Rattle.traces.specs.declared.place.Place.{Place}
 use Rattle.wire_edits.specs.{declared.editing.EditorCommand.EditorCommand, declared.editing.EditorCommand.TheVariants.{OpenRoot, TargetRevision}}
 use Rattle.wire_replies.specs.declared.reply.Reply.{Reply}
 use Rattle.wire_replies.specs.declared.reply.Reply.TheVariants as replies
-use Rattle.replays.specs.{Commands.{add_command, close_command, delete_command, is_empty, open_command, own_commands, token_of}, Places.{change_in, child_of, is_in_part, place_in}}
-use Rattle.replays.specs.{Shaping.{base_of, root_shape, shape_at}, declared.ask.ReplayAsk.ReplayAsk, declared.places.Shape.Shape}
+use Rattle.replays.specs.Commands.{add_command, close_command, delete_command, is_empty, open_command, own_commands, token_of}
+use Rattle.replays.specs.{Places.{change_in, child_of, is_in_part, place_in}, Shaping.{base_of, root_shape, shape_at}, declared.ask.ReplayAsk.ReplayAsk}
+use Rattle.replays.specs.declared.places.Shape.{Shape}
 
 -- what is said beneath a directory, by where the client has it and by its path
 abbrev pub Inside : Type 0

@@ -1,13 +1,14 @@
 -- What the commands of an edit make of the tree of a mirror, which has the trees of revisions to copy
 -- from.
-use Rattle.std.specs.Prelude.{◌≡◌, ℕ, ◌-◌, Bool, true, false, not, ◌&&◌, is_some, List, [], ◌∷◌, ◌++◌, drop, length, take, Option, Some, None, option_map, option_and_then, IsTrue, Result, Ok, Err, if◌then◌else◌}
+use Rattle.std.specs.Prelude.{◌≡◌, ℕ, ◌-◌, Bool, true, false, not, ◌&&◌, is_some, List, [], ◌∷◌, ◌++◌, drop, length, take, Option, Some, None, option_map}
+use Rattle.std.specs.Prelude.{option_and_then, IsTrue, Result, Ok, Err, if◌then◌else◌}
 use Rattle.hex.specs.Hex.{encode_lower}
 use Rattle.md5.specs.Md5.{md5}
 use Rattle.svnpath.specs.{Paths.{is_at_or_under, PathValue, same_component, same_path}, Texts.components_of}
 use Rattle.svndiff0.specs.{Document.document_text, declared.fault.DiffFault.DiffFault}
 use Rattle.wire_forms.specs.Forms.{is_name}
-use Rattle.repo_api.specs.{Properties.property_value, States.{RepoState, trees_in}, Trees.{is_directory_content, Tree}}
-use Rattle.repo_api.specs.{declared.entry.Content.Content, declared.entry.Content.TheVariants.{Directory, File}, declared.entry.Entry.Entry}
+use Rattle.repo_api.specs.{Properties.property_value, States.{RepoState, trees_in}, Trees.{is_directory_content, Tree}, declared.entry.Content.Content}
+use Rattle.repo_api.specs.{declared.entry.Content.TheVariants.{Directory, File}, declared.entry.Entry.Entry}
 use Rattle.wire_edits.specs.{declared.editing.AddedEntry.AddedEntry, declared.editing.EditorCommand.EditorCommand, declared.editing.OpenedEntry.OpenedEntry}
 use Rattle.wire_edits.specs.declared.editing.EditorCommand.TheVariants.{TargetRevision, OpenRoot, DeleteEntry, AddDirectory, AddFile, OpenDirectory, OpenFile}
 use Rattle.wire_edits.specs.declared.editing.EditorCommand.TheVariants.{ChangeDirectoryProperty, ChangeFileProperty, ApplyTextDelta, TextDeltaChunk}

@@ -1,9 +1,8 @@
 -- Where a client has what the replay of a revision is of.
-use Rattle.std.specs.Prelude.{ℕ, nat_lt, Bool, false, not, ◌&&◌, ◌||◌, List, [], ◌∷◌, ◌++◌, Option, Some, None, option_map, filter, if◌then◌else◌}
-use Rattle.std.specs.List.{find}
+use Rattle.std.specs.{Prelude.{ℕ, nat_lt, Bool, false, not, ◌&&◌, ◌||◌, List, [], ◌∷◌, ◌++◌, Option, Some, None, option_map, filter, if◌then◌else◌}, List.find}
 use Rattle.svnpath.specs.Paths.{Component, is_at_or_under, PathValue, same_path}
-use Rattle.repo_api.specs.{Histories.Changed, Kinds.{is_directory_kind, is_file_kind, kind_at}, States.RepoState}
-use Rattle.repo_api.specs.{declared.change.Change.Change, declared.change.Source.Source, declared.entry.NodeKind.NodeKind}
+use Rattle.repo_api.specs.{Histories.Changed, Kinds.{is_directory_kind, is_file_kind, kind_at}, States.RepoState, declared.change.Change.Change}
+use Rattle.repo_api.specs.{declared.change.Source.Source, declared.entry.NodeKind.NodeKind}
 use Rattle.repo_api.specs.declared.entry.NodeKind.TheVariants as kinds
 use Rattle.traces.specs.declared.place.Place.{Place}
 use Rattle.file_histories.specs.Deleted.{is_modify}

@@ -1,6 +1,5 @@
 -- What becomes of an entry in a revision that is replayed.
-use Rattle.std.specs.Prelude.{ℕ, ◌-◌, false, not, ◌&&◌, [], Option, Some, None, is_some}
-use Rattle.std.specs.Option.{option_or}
+use Rattle.std.specs.{Prelude.{ℕ, ◌-◌, false, not, ◌&&◌, [], Option, Some, None, is_some}, Option.option_or}
 use Rattle.svnpath.specs.Paths.{PathValue}
 use Rattle.repo_api.specs.{Histories.history_of, Kinds.{is_present, kind_at}, States.RepoState, declared.change.Change.Change, declared.entry.NodeKind.NodeKind}
 use Rattle.repo_api.specs.declared.entry.NodeKind.TheVariants as kinds

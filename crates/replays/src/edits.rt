@@ -2,8 +2,7 @@
 ghost use Rattle.std.specs.Prelude.{◌≡◌, [], None, option_copied, suc, true};
 ghost use Rattle.svnpath.specs.declared.component.TheConstants.{DEPTH_LIMIT};
 ghost use Rattle.repo_api.specs.Histories.{history_of};
-ghost use Rattle.replays.specs.{Commands.token_of, Edits.{edit_commands, edit_replies, root_commands}};
-ghost use Rattle.replays.specs.{Places.run_at, Sending.Sends, Shaping.root_shape};
+ghost use Rattle.replays.specs.{Commands.token_of, Edits.{edit_commands, edit_replies, root_commands}, Places.run_at, Sending.Sends, Shaping.root_shape};
 ghost use Rattle.wire_replies.specs.{Made.Makes, Sinks.Says};
 
 use crate::listing::{change_of, has_text};

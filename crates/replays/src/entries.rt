@@ -2,8 +2,8 @@
 ghost use Rattle.std.specs.Prelude.{◌≡◌, ◌∷◌, [], map, not, option_copied, false, true, IfOk, Some};
 ghost use Rattle.repo_api.specs.Kinds.{is_directory_kind};
 ghost use Rattle.file_histories.specs.Differing.{differing};
-ghost use Rattle.replays.specs.Commands.{changes_sent, close_command, is_empty, own_commands, properties_there, property_command, token_of};
-ghost use Rattle.replays.specs.{Places.place_in, Sending.Sends, Shaping.base_of};
+ghost use Rattle.replays.specs.{Commands.{changes_sent, close_command, is_empty, own_commands, properties_there, property_command, token_of}, Places.place_in};
+ghost use Rattle.replays.specs.{Sending.Sends, Shaping.base_of};
 ghost use Rattle.wire_replies.specs.Made.{Makes};
 
 use crate::ask::ReplayAsk;
@@ -12,10 +12,9 @@ use crate::places::Shape;
 use crate::replayed::Replayed;
 use crate::saying::say_command;
 use crate::texts::{say_text_told, text_told};
-use byte_string::ByteString;
+use byte_string::{ByteString, Sequence};
 use file_histories::{DifferingProperties, differing};
 use repo_api::{FileText, Properties, PropertyValue, Repository};
-use sequence::Sequence;
 use std::alloc::{AllocError, Global};
 use svnpath::Path;
 use traces::Place;

@@ -1,6 +1,5 @@
 //! What a revision's list has at a path and beneath it.
-ghost use Rattle.std.specs.Prelude.{◌≡◌, ℕ, true, option_copied};
-ghost use Rattle.std.specs.Ordering.{is_lt};
+ghost use Rattle.std.specs.{Prelude.{◌≡◌, ℕ, true, option_copied}, Ordering.is_lt};
 ghost use Rattle.svnpath.specs.Paths.{is_at_or_under, path_cmp, PathValue};
 ghost use Rattle.repo_api.specs.{Histories.history_of, States.RepoState};
 ghost use Rattle.replays.specs.Places.{change_in, has_text, is_new, run_at, source_in};

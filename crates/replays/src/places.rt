@@ -1,8 +1,7 @@
 //! Where the client has what a replay is of.
 ghost use Rattle.std.specs.Prelude.{◌≡◌, option_copied, IfOk};
 ghost use Rattle.repo_api.specs.Histories.{history_of};
-ghost use Rattle.replays.specs.Places.{child_of, followed, is_in_part, is_of_kind, kept, kind_there, may_follow, run_at, source_in};
-ghost use Rattle.replays.specs.Shaping.{shape_at};
+ghost use Rattle.replays.specs.{Places.{child_of, followed, is_in_part, is_of_kind, kept, kind_there, may_follow, run_at, source_in}, Shaping.shape_at};
 
 use crate::ask::ReplayAsk;
 use crate::listing::{change_of, has_text, is_new, source_in};

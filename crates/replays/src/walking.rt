@@ -2,8 +2,8 @@
 ghost use Rattle.std.specs.Prelude.{◌≡◌, ◌<◌, ◌++◌, ◌∷◌, [], ℕ, suc, true, if◌then◌else◌};
 ghost use Rattle.repo_api.specs.{Histories.history_of, Kinds.is_directory_kind};
 ghost use Rattle.replays.specs.Commands.{add_command, close_command, delete_command, open_command};
-ghost use Rattle.replays.specs.Edits.{below, entry_commands, inside_commands, is_named, standing_commands};
-ghost use Rattle.replays.specs.{Places.{child_of, place_in, run_at}, Sending.Sends, Shaping.base_of};
+ghost use Rattle.replays.specs.{Edits.{below, entry_commands, inside_commands, is_named, standing_commands}, Places.{child_of, place_in, run_at}};
+ghost use Rattle.replays.specs.{Sending.Sends, Shaping.base_of};
 
 use crate::entering::{add_command, delete_command, open_command};
 use crate::entries::{say_close, say_own};

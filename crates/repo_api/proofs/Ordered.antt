@@ -1,10 +1,11 @@
 -- Rows in the order of their names, around the place of a name.
-use Rattle.std.proofs.Common.{◌≡◌, ◌+◌, ℕ, zero, suc, Bool, true, false, cond, List, [], ◌∷◌, ◌++◌, take, drop, Option, Some, None, refl, sym, ap, subst, append-nil, arith, ◌∙◌}
-use Rattle.std.proofs.lemmas.{Bool.false≢true, List.{take-append-drop, set_split}, Option.{none-some, slice_get-get_or, slice_get_within}}
+use Rattle.std.proofs.Common.{◌≡◌, ◌+◌, ℕ, zero, suc, Bool, true, false, cond, List, [], ◌∷◌, ◌++◌, take, drop, Option, Some, None, refl, sym, ap, subst}
+use Rattle.std.proofs.{Common.{append-nil, arith, ◌∙◌}, lemmas.Bool.false≢true, lemmas.List.{take-append-drop, set_split}}
+use Rattle.std.proofs.lemmas.Option.{none-some, slice_get-get_or, slice_get_within}
 use Rattle.std.specs.{Prelude.{T, ◌&&◌, ◌<◌, IsSomeAnd, slice_get, slice_set, get_or, length}, List.{AllByRecursion, insert, remove}}
-use Rattle.std.specs.{Cmp.{IsTotalOrder, alike_right, tied_itself}, Cmp.Lexicographic.{slice_cmp, nat_list_cmp_total}, FinMap.Entries.{by_order, put, below_all, is_sorted-put}}
-use Rattle.std.specs.{FinMap.{IsAntisymmetric, slice_cmp-IsAntisymmetric, nat_cmp-IsAntisymmetric}, BTreeMap.{is_at}}
-use Rattle.std.specs.{Ordering.{is_eq, is_lt, nat_cmp, match_ordering, ordering_reverse}, declared.cmp.Ordering.Ordering}
+use Rattle.std.specs.{Cmp.{IsTotalOrder, alike_right, tied_itself}, Cmp.Lexicographic.{slice_cmp, nat_list_cmp_total}}
+use Rattle.std.specs.{FinMap.Entries.{by_order, put, below_all, is_sorted-put}, FinMap.{IsAntisymmetric, slice_cmp-IsAntisymmetric, nat_cmp-IsAntisymmetric}}
+use Rattle.std.specs.{BTreeMap.is_at, Ordering.{is_eq, is_lt, nat_cmp, match_ordering, ordering_reverse}, declared.cmp.Ordering.Ordering}
 use Rattle.std.specs.declared.cmp.Ordering.TheVariants.{Less, Equal, Greater}
 use Rattle.repo_api.specs.{Properties.{PropertyList, property_value, with_property, without_property}, Rows.{AreInOrder, IsBetween}}
 

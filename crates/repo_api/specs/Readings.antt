@@ -1,5 +1,6 @@
 -- What a directory of a revision shows: the names of its entries.
-use Rattle.std.specs.{Prelude.{◌≡◌, ◌⊎◌, ℕ, Bool, true, List, [], ◌∷◌, ◌++◌, length, drop, Option, Some, None, if◌then◌else◌}, FinMap.keys, List.{filter_map, list_any}}
+use Rattle.std.specs.{Prelude.{◌≡◌, ◌⊎◌, ℕ, Bool, true, List, [], ◌∷◌, ◌++◌, length, drop, Option, Some, None, if◌then◌else◌}, FinMap.keys}
+use Rattle.std.specs.List.{filter_map, list_any}
 use Rattle.svnpath.specs.Paths.{Component, is_at_or_under, PathValue, same_component}
 use Rattle.repo_api.specs.States.{TreeMap, RepoState, tree_at, trees_in}
 

@@ -2,8 +2,7 @@
 use Rattle.std.proofs.Common.{◌≡◌, Option, Some, None, refl}
 use Rattle.std.specs.Prelude.{Result, Ok, Err, IfOk}
 use Rattle.svnpath.specs.Paths.{PathValue}
-use Rattle.repo_api.specs.{Commits.{IsConflictOf, IsRefusedAt}, Locking.refusing_path, States.{RepoState, TxnState}}
-use Rattle.repo_api.specs.declared.ask.CommitAsk.{CommitAsk}
+use Rattle.repo_api.specs.{Commits.{IsConflictOf, IsRefusedAt}, Locking.refusing_path, States.{RepoState, TxnState}, declared.ask.CommitAsk.CommitAsk}
 
 module _ (c : RepoState) (ask : CommitAsk) (t : TxnState) where
   -- a path in conflict

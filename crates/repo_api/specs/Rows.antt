@@ -1,6 +1,6 @@
 -- Properties in the order of their names, and the place of a name among them.
-use Rattle.std.specs.{Prelude.{◌≡◌, ℕ, T, List}, FinMap.Entries.is_sorted, List.AllByRecursion, Cmp.Lexicographic.slice_cmp}
-use Rattle.std.specs.{Ordering.nat_cmp, declared.cmp.Ordering.TheVariants.{Less, Greater}}
+use Rattle.std.specs.{Prelude.{◌≡◌, ℕ, T, List}, FinMap.Entries.is_sorted, List.AllByRecursion, Cmp.Lexicographic.slice_cmp, Ordering.nat_cmp}
+use Rattle.std.specs.declared.cmp.Ordering.TheVariants.{Less, Greater}
 use Rattle.repo_api.specs.Properties.{PropertyList}
 
 -- the names strictly rise, by their bytes

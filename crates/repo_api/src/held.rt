@@ -1,5 +1,5 @@
 //! Properties as they are held: a few as rows, more in a tree.
-ghost use Rattle.std.specs.{Prelude.{◌≡◌, ◌==◌, length, IfOk, OnOk, OnErr, IfSome, option_copied}};
+ghost use Rattle.std.specs.Prelude.{◌≡◌, ◌==◌, length, IfOk, OnOk, OnErr, IfSome, option_copied};
 ghost use Rattle.repo_api.specs.{Held.{IsInOrder, list_of}, Properties.{property_value, with_properties, with_property, without_property}, Rows.AreInOrder};
 
 use crate::rows::{put, search, take_out, tree_of, value_in};

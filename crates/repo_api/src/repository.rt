@@ -3,8 +3,8 @@ ghost use Rattle.std.specs.{Prelude.{◌≡◌, ◌≤◌, ◌<◌, true, length
 ghost use Rattle.repo_api.specs.{States.{RepoState, TxnState, IsBeginning, IsBegun, EditsTxn, tree_of, trees_in, youngest}, Accepted.MakesChange};
 ghost use Rattle.repo_api.specs.{Accepted.Accepted.{ChangesProperty, Commits, Locks, Releases, Unlocks}, Commits.IsRefusedAt, RightEdits.IsRightEdit};
 ghost use Rattle.repo_api.specs.{Locking.{at_or_under, releases}, Histories.{history_of, IsQuietSince}};
-ghost use Rattle.repo_api.specs.Kinds.{kind_at, has_deeper_at, created_at, node_properties_at, text_at, kind_in, created_in, text_in};
-ghost use Rattle.repo_api.specs.{Dates.IsUndatedSince, Readings.{names_at, DifferAtMostBy, IsSameAt}};
+ghost use Rattle.repo_api.specs.{Kinds.{kind_at, has_deeper_at, created_at, node_properties_at, text_at, kind_in, created_in, text_in}, Dates.IsUndatedSince};
+ghost use Rattle.repo_api.specs.Readings.{names_at, DifferAtMostBy, IsSameAt};
 
 use crate::ask::CommitAsk;
 use crate::change::Change;

@@ -5,7 +5,7 @@ use Rattle.store_files.specs.{Folders.{Folder, IsSame, SameBut, Scribbled, text_
 use Rattle.store_files.specs.declared.store.Store.{Ghosts}
 use Rattle.store_files.specs.{declared.name.FileName.TheVariants.{Format, Kind, Uuid, Current, Locks, Revision, Properties, RepositoryFormat}, Faults.IsRefused}
 use Rattle.store_files.specs.{declared.fault.ReplaceFault.ReplaceFault, declared.fault.ReplaceFault.TheVariants.{InDoubt, NoMemory, Unchanged}}
-use Rattle.fsfs_format.specs.Formats.{layout_in, shard_in}
+use Rattle.fsfs_text.specs.Formats.{layout_in, shard_in}
 use Rattle.repostore.specs.{Current.count_in, Files.{Files, HasFiles, revision_name, properties_name}, Saving.{Stands, Going}}
 use Rattle.repository_creation.specs.Creating.{IsFreeWith, IsFreeOrHas}
 use Rattle.repostore.proofs.{Reaching.closed, Steps.{begun, goes_on, weaker, wrote, with_bytes, unchanged}, Joining.join}

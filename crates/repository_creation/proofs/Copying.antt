@@ -2,7 +2,7 @@
 use Rattle.std.proofs.Common.{◌≡◌, ℕ, suc, ◌+◌, List, [], ◌∷◌, ◌++◌, Option, Some, Result, Ok, Err, inl, inr, ⊎_elim, refl, sym, ap, subst, ◌∙◌, arith, add-one}
 use Rattle.std.proofs.Common.{le_refl}
 use Rattle.std.specs.Prelude.{◌≤◌, ◌<◌, ◌⊎◌, ◌≢◌, IsErr, IsErrOf}
-use Rattle.fsfs_format.specs.{Formats.layout_in, declared.format.Layout.Layout}
+use Rattle.fsfs_text.specs.{Formats.layout_in, declared.format.Layout.Layout}
 use Rattle.store_files.specs.{Folders.{Folder, IsSame, SameBut, text_of}, declared.name.FileName.FileName}
 use Rattle.store_files.specs.{declared.name.FileName.TheVariants.{Format, Uuid, Current, Locks, Revision, Properties}, Moments.{Elapses, HasCause, HasRisen}}
 use Rattle.store_files.specs.{Stops.LeavesOnly, declared.store.Store.Ghosts, declared.fault.StoreFault.StoreFault}

@@ -1,6 +1,6 @@
 -- How the files of a repository are copied into another store, in another format.
 use Rattle.std.specs.Prelude.{◌≡◌, ◌⊎◌, ◌≤◌, ℕ, List, Option, Some, None, Result, OnOk, IsErr, IsErrOf}
-use Rattle.fsfs_format.specs.declared.format.Layout.{Layout}
+use Rattle.fsfs_text.specs.declared.format.Layout.{Layout}
 use Rattle.store_files.specs.{Folders.{Folder, text_of}, Moments.HasRisen, Stops.LeavesOnly, declared.name.FileName.TheVariants.{Format, Uuid, Locks}}
 use Rattle.store_files.specs.{declared.store.Store.Ghosts, declared.fault.StoreFault.StoreFault, declared.fault.StoreFault.TheVariants.{Device, NoMemory}}
 use Rattle.repostore.specs.{Files.{Files, HasFiles, revisions_below}, Opening.OnlyReads, Saving.Stands}

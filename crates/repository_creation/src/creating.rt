@@ -4,7 +4,7 @@ ghost use Rattle.store_files.specs.{Folders.IsSame, Moments.{HasCause, HasRisen}
 ghost use Rattle.repostore.specs.{Current.count_in, Files.HasFiles, Saving.Stands};
 ghost use Rattle.repository_creation.specs.Creating.{Creates, opening_files, IsFreeWith};
 
-use fsfs_format::layout_in;
+use fsfs_text::layout_in;
 use std::alloc::Global;
 use store_files::{FileName, Store, StoreFault};
 

@@ -1,11 +1,11 @@
 //! The files of a repository copied into another store.
 ghost use Rattle.std.specs.Prelude.{◌≡◌, ◌⊎◌, ◌+◌, ◌≤◌, ◌↔◌, Option, List, ℕ, None, Some, IfOk, IsErr, IsErrOf, OnOk, length};
-ghost use Rattle.fsfs_format.specs.{Formats.layout_in, declared.format.Layout.Layout};
+ghost use Rattle.fsfs_text.specs.{Formats.layout_in, declared.format.Layout.Layout};
 ghost use Rattle.store_files.specs.{Folders.{Folder, text_of}, Moments.{HasCause, HasRisen}};
 ghost use Rattle.repostore.specs.{Files.{Files, HasFiles, reached, revision_files}, Current.count_in, Opening.OnlyReads, Saving.{Going, Stands}};
 ghost use Rattle.repository_creation.specs.{Creating.IsFreeWith, Migrating.{HasSome, IsFree, IsStep, Makes, moved_files, moved_locks}};
 
-use fsfs_format::{Layout, layout_in};
+use fsfs_text::{Layout, layout_in};
 use repostore::{layout_of, read_text};
 use std::alloc::Global;
 use store_files::{FileName, Store, StoreFault};

@@ -4,9 +4,10 @@ use Rattle.std.proofs.{Common.{length-append, add-one, cond}, lemmas.Bool.cases_
 use Rattle.std.specs.Prelude.{◌<◌, ◌≤◌, option_map}
 use Rattle.store_files.specs.{Folders.{Folder, IsSame, SameBut, text_of}, NameLaws.all_same}
 use Rattle.store_files.specs.declared.name.FileName.TheVariants.{Format, Kind, Uuid, Current, Locks, Revision, Properties, RepositoryFormat}
-use Rattle.fsfs_format.specs.{Formats.{layout_in, shard_in}, declared.format.Layout.Layout}
-use Rattle.repostore.specs.{Current.{count_in, counted, number_in}, Files.{RevisionFiles, Files, revision_name, properties_name, revision_files, revisions_below, reached, HasFiles}}
-use Rattle.repostore.specs.{Files.{with_revision, with_locks, with_second, with_properties, HasEither}, Reading.{read_below, with_one_more}, Saving.HasNext}
+use Rattle.fsfs_text.specs.{Formats.{layout_in, shard_in}, declared.format.Layout.Layout}
+use Rattle.repostore.specs.{Current.{count_in, counted, number_in}, Files.{RevisionFiles, Files, revision_name, properties_name, revision_files}}
+use Rattle.repostore.specs.Files.{revisions_below, reached, HasFiles, with_revision, with_locks, with_second, with_properties, HasEither}
+use Rattle.repostore.specs.{Reading.{read_below, with_one_more}, Saving.HasNext}
 
 pub length-below : (l : Layout) (f : Folder) (n : ℕ) → length (revisions_below l f n) ≡ n
 length-below l f zero = refl

@@ -3,7 +3,7 @@ use Rattle.std.proofs.Common.{◌≡◌, ◌⊎◌, inl, inr, ⊎_elim, ℕ, Som
 use Rattle.std.specs.Prelude.{◌≤◌}
 use Rattle.store_files.specs.{Folders.{Folder, IsSame, text_of}, Moments.Elapses, Stops.LeavesOnly, declared.name.FileName.TheVariants.{Current, Format, Locks}}
 use Rattle.store_files.specs.{declared.fault.StoreFault.StoreFault, declared.store.Store.Ghosts}
-use Rattle.fsfs_format.specs.Formats.{layout_in}
+use Rattle.fsfs_text.specs.Formats.{layout_in}
 use Rattle.repostore.specs.{Opening.OnlyReads, Current.count_in, Reading.{Faulty, HasFaultyRevision, IsFaulty, IfFaulty}}
 use Rattle.store_files.specs.declared.fault.StoreFault.TheVariants as store
 use Rattle.repostore.proofs.Steps.{goes_on}

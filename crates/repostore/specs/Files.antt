@@ -1,7 +1,8 @@
 -- The files that are reached from `current`, and what they stand for.
 use Rattle.std.specs.Prelude.{◌≡◌, ◌⊎◌, ℕ, zero, suc, List, [], ◌∷◌, ◌++◌, Option, Some, option_map}
-use Rattle.fsfs_format.specs.{Formats.{layout_in, shard_in}, declared.format.Layout.Layout}
-use Rattle.store_files.specs.{Folders.{Folder, text_of}, declared.name.FileName.FileName, declared.name.FileName.TheVariants.{Format, Uuid, Current, Locks, Revision, Properties}}
+use Rattle.fsfs_text.specs.{Formats.{layout_in, shard_in}, declared.format.Layout.Layout}
+use Rattle.store_files.specs.{Folders.{Folder, text_of}, declared.name.FileName.FileName}
+use Rattle.store_files.specs.declared.name.FileName.TheVariants.{Format, Uuid, Current, Locks, Revision, Properties}
 use Rattle.repostore.specs.Current.{count_in}
 
 -- the names of the files of a revision, and of its properties, in a layout

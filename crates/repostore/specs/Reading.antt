@@ -1,10 +1,9 @@
 -- How the files of a repository are read.
 use Rattle.std.specs.Prelude.{◌≡◌, ◌⊎◌, ◌<◌, ℕ, List, [], ◌++◌, ◌∷◌, Option, None, Some, Result, Ok, Err}
-use Rattle.fsfs_format.specs.{Formats.layout_in, declared.format.Layout.Layout}
+use Rattle.fsfs_text.specs.{Formats.layout_in, declared.format.Layout.Layout, declared.fault.FileFault.FileFault}
+use Rattle.fsfs_text.specs.declared.fault.FileFault.TheVariants.{Truncated, BadLine, Delta, Digest, Dangling, WrongFormat, NoMemory}
 use Rattle.store_files.specs.{Folders.{Folder, text_of}, declared.name.FileName.TheVariants.{Format, Uuid, Current, Locks}}
 use Rattle.store_files.specs.declared.fault.StoreFault.{StoreFault}
-use Rattle.fsfs_lines.specs.declared.fault.FileFault.{FileFault}
-use Rattle.fsfs_lines.specs.declared.fault.FileFault.TheVariants.{Truncated, BadLine, Delta, Digest, Dangling, WrongFormat, NoMemory}
 use Rattle.store_files.specs.declared.fault.StoreFault.TheVariants as store
 use Rattle.repostore.specs.{Current.count_in, Files.{RevisionFiles, Files, HasFiles, revision_files, revisions_below}}
 

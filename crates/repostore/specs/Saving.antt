@@ -3,7 +3,7 @@ use Rattle.std.specs.Prelude.{◌≡◌, ◌⊎◌, ◌↔◌, ◌<◌, ℕ, Lis
 use Rattle.store_files.specs.{Folders.{Folder, IsSame, SameBut, Swapped}, Moments.{Elapses, HasRisen}, Stops.LeavesOnly, declared.name.FileName.FileName}
 use Rattle.store_files.specs.{declared.store.Store.Ghosts, declared.fault.StoreFault.StoreFault}
 use Rattle.store_files.specs.declared.fault.StoreFault.TheVariants.{Device, Halted, NoMemory}
-use Rattle.fsfs_format.specs.Formats.{layout_in}
+use Rattle.fsfs_text.specs.Formats.{layout_in}
 use Rattle.repostore.specs.{Files.{Files, HasEither, HasFiles, properties_name, revision_name}, declared.saves.Saves.Saves}
 
 -- the folder has these files, and those of a revision that is not reached yet

@@ -2,13 +2,12 @@
 ghost use Rattle.std.specs.Prelude.{◌≡◌, ◌⊎◌, false, Some, IfOk, IfErr, OnOk};
 ghost use Rattle.store_files.specs.{Folders.{bytes_of, Folder, IsSame, text_of}, Moments.HasCause};
 ghost use Rattle.repostore.specs.{Current.count_in, Files.{Files, HasFiles, revision_files, reached}, Reading.{Faulty, HasTaken, IsFaulty, HasFaultyRevision}};
-ghost use Rattle.fsfs_format.specs.Formats.{layout_in};
 ghost use Rattle.repostore.specs.Reading.{IfFindsFaulty, IfStoreFindsFaulty, with_head, with_one_more, with_read_locks, read_below};
 ghost use Rattle.repostore.specs.{Opening.{IsUnopened, OnlyReads, Reads}, Saving.IsSaved};
+ghost use Rattle.fsfs_text.specs.Formats.{layout_in};
 
 use crate::saves::Saves;
-use fsfs_format::{Layout, layout_in};
-use fsfs_lines::FileFault;
+use fsfs_text::{FileFault, Layout, layout_in};
 use std::alloc::Global;
 use store_files::{FileName, Store, StoreFault};
 

@@ -4,7 +4,7 @@ ghost use Rattle.store_files.specs.{Faults.told_of, Moments.HasCause};
 ghost use Rattle.repostore.specs.{Current.count_in, Files.{Files, with_revision, with_locks, with_properties, HasFiles}};
 ghost use Rattle.repostore.specs.Saving.{IsSaved, SaveMakes, SaveEnds, Going, Replaces, IsWritten, IsUnchanged, HasNext};
 
-use fsfs_format::Layout;
+use fsfs_text::Layout;
 use store_files::{FileName, ReplaceFault, Store, StoreFault};
 
 /// The files of a repository that are saved: how many revisions they have, where these are, and whether a

@@ -2,10 +2,10 @@
 use Rattle.std.proofs.Common.{◌≡◌, Bool, true, false, cond, ◌&&◌, ◌||◌, List, [], ◌∷◌, ◌++◌, Some, refl, sym, ap, subst, ◌∙◌, append_assoc}
 use Rattle.std.proofs.{lemmas.Bool.false≢true, lemmas.List.append-nil, lemmas.Map.Keys.{sorted_head, sorted_tail}}
 use Rattle.std.specs.{BTreeMap.is_at, BTreeMap.Range.range_contains, List.{AllByRecursion, filter}, List.Sorted.IsStrictlySortedBy, Map.keys_of}
-use Rattle.std.specs.{Ordering.{is_eq, is_le, is_lt}, Prelude.{is_some, not}}
-use Rattle.std.specs.{declared.cmp.Ordering.Ordering, declared.cmp.Ordering.TheVariants.{Less, Equal, Greater}}
-use Rattle.std.specs.declared.ops.Bound.TheVariants.{Excluded, Unbounded}
-use Rattle.svnpath.specs.{PathLaws.{at_is, between_under, from_under, same_path_is, same_path_refl}, Paths.{is_at_or_under, path_cmp, path_ties, PathValue, same_path}}
+use Rattle.std.specs.{Ordering.{is_eq, is_le, is_lt}, Prelude.{is_some, not}, declared.cmp.Ordering.Ordering}
+use Rattle.std.specs.{declared.cmp.Ordering.TheVariants.{Less, Equal, Greater}, declared.ops.Bound.TheVariants.{Excluded, Unbounded}}
+use Rattle.svnpath.specs.PathLaws.{at_is, between_under, from_under, same_path_is, same_path_refl}
+use Rattle.svnpath.specs.Paths.{is_at_or_under, path_cmp, path_ties, PathValue, same_path}
 use Rattle.revision_data.specs.Found.{found, is_beneath, is_listed}
 
 -- the paths of the entries at or under the path

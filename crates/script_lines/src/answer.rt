@@ -1,6 +1,6 @@
 //! What calls are answered, as lines.
 
-use fsfs_lines::FileFault;
+use fsfs_text::FileFault;
 use hub::{Call, HubFault, Outcome};
 use std::alloc::{AllocError, Global};
 use store_files::StoreFault;

@@ -11,8 +11,7 @@ use Rattle.refusals.specs.declared.Refusal.{Refusal}
 use Rattle.access.specs.{Changing.{ChangesAt, IsHalt, ReleasesAfter, ReplacesAt, wants_release}, Handed.IsHandedIn, Points.{content_of, Point}}
 use Rattle.access.specs.{Refused.IfRefusal, declared.access.Released.Released, declared.access.Released.TheVariants.{Settled, NoMemory, StoreFailed}}
 use Rattle.access.specs.declared.handed.Handed.{Handed}
-use Rattle.published.specs.{Changes.IsRight, Moments.{added, shared_rules}}
-use Rattle.published.specs.Files.{Kept}
+use Rattle.published.specs.{Changes.IsRight, Moments.{added, shared_rules}, Files.Kept}
 use Rattle.archives.specs.Archives.{IsMade, IsNext}
 use Rattle.keepers.specs.{Settling.SettlesTo, Standing.{Standing, IsSteady, now_of, NotBegun}}
 use Rattle.keepers.proofs.Keeping.{sound_now}

@@ -1,10 +1,10 @@
 -- What a stop leaves within a commit with its release.
 use Rattle.std.proofs.Common.{◌≡◌, List, [], ◌∷◌, ◌++◌, false, Option, Some, None, subst}
-use Rattle.repo_api.specs.{Accepted.{Accepted, changed, IsAccepted}, Accepted.Accepted.{Commits, Releases}, States.{RepoState, TxnState}, declared.ask.CommitAsk.CommitAsk}
-use Rattle.access.specs.{declared.handed.Handed.Handed, Handed.IsHandedIn}
+use Rattle.repo_api.specs.{Accepted.{Accepted, changed, IsAccepted}, Accepted.Accepted.{Commits, Releases}, States.{RepoState, TxnState}}
+use Rattle.repo_api.specs.declared.ask.CommitAsk.{CommitAsk}
+use Rattle.access.specs.{declared.handed.Handed.Handed, Handed.IsHandedIn, Beginnings.AreAmong}
 use Rattle.published.specs.{Events.state_of, Files.Kept}
-use Rattle.stops.specs.Beginnings.{AreAmong}
-use Rattle.stops.proofs.First as first
+use Rattle.access.proofs.First as first
 use Rattle.keepers.specs.Standing.{Standing, StopLeaves}
 use Rattle.seat_calls.specs.Releasing.{releases_of}
 

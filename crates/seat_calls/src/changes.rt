@@ -1,9 +1,8 @@
 //! The changes that a keeper makes: each is made, saved, and published.
 ghost use Rattle.std.specs.Prelude.{◌≡◌, false, true, [], ◌∷◌, None};
-ghost use Rattle.access.specs.{Changing.{ChangesPropertyAt, CommitsAt, LocksAt, ReplacesAt, UnlocksAt}, Points.content_of};
-ghost use Rattle.access.specs.Refused.{HasPath, without_path};
-ghost use Rattle.repo_api.specs.{Accepted.Accepted.{ChangesProperty, Commits, Locks, Releases, Unlocks}, Commits.IsRefusedAt};
-ghost use Rattle.repo_api.specs.{Locking.releases, Transactions.MayCommit};
+ghost use Rattle.access.specs.{Changing.{ChangesPropertyAt, CommitsAt, LocksAt, ReplacesAt, UnlocksAt}, Points.content_of, Refused.{HasPath, without_path}};
+ghost use Rattle.repo_api.specs.{Accepted.Accepted.{ChangesProperty, Commits, Locks, Releases, Unlocks}, Commits.IsRefusedAt, Locking.releases};
+ghost use Rattle.repo_api.specs.Transactions.{MayCommit};
 ghost use Rattle.published.specs.{Events.knowing, Moments.shared_rules};
 ghost use Rattle.keepers.specs.Standing.{HappensAt, StopLeaves, now_of};
 ghost use Rattle.seat_calls.specs.Releasing.{ReleasesHanded, ReleasesTo, Revises, released_as, releases_of};

@@ -2,7 +2,7 @@
 ghost use Rattle.std.specs.Prelude.{◌≡◌, false, List};
 ghost use Rattle.repo_api.specs.{Accepted.Accepted, States.RepoState};
 ghost use Rattle.published.specs.Events.{state_of};
-ghost use Rattle.stops.specs.{Beginnings.{GoesOnTo, IsAmong}, Calls.{IsWithin, after_calls}};
+ghost use Rattle.access.specs.{Beginnings.{GoesOnTo, IsAmong}, Calls.{IsWithin, after_calls}};
 ghost use Rattle.keepers.specs.Standing.{IsSteady, MakesCalls, Standing};
 
 use archives::Archive;

@@ -1,6 +1,6 @@
 //! The files of repositories, a path in them, and its lock.
 use byte_string::ByteString;
-use filed_opening::create;
+use filed_repository::create;
 use repo_api::LockAsk;
 use std::alloc::Global;
 use std::process::Abort;

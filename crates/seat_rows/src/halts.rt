@@ -7,15 +7,15 @@ use crate::places::{SoundTrees, opened, places};
 use crate::plays::{Act, Marks, Play, act_in, is_played_over};
 use crate::stores::{TestStore, failing};
 use access::RepoAccess;
-use filed_world::FiledWorld;
+use filed_repository::FiledWorld;
 use published::{Naming, NewHistory};
 use repo_api::ChangeFault;
 use std::alloc::Global;
 use std::marker::Brand;
 use std::process::Abort;
 use std::sync::Wait;
-use store_access::StoredRepository;
 use store_files::{Left, Store};
+use stored_repository::StoredRepository;
 
 /// What two seats are told: how the commit of the first is answered, the youngest revision that the second sees behind
 /// it, whether this one knows of a halt, and how its commit is answered.

@@ -6,7 +6,7 @@ use crate::places::{SoundTrees, opened};
 use crate::plays::{Play, is_played_over};
 use crate::stores::{TestStore, whole};
 use access::RepoAccess;
-use filed_world::FiledWorld;
+use filed_repository::FiledWorld;
 use published::NewHistory;
 use std::alloc::Global;
 use std::marker::Brand;

@@ -5,14 +5,13 @@ ghost use Rattle.repo_api.specs.Soundness.{AreSound};
 
 use access::SplitAccess;
 use filed_archive::{ServedAccess, ServedChanges, ServedRepo, ServedSeat, share};
-use filed_opening::{FolderRepository, open, opened_trees_are_sound};
-use filed_world::FiledWorld;
+use filed_repository::{FiledWorld, FolderRepository, open, opened_trees_are_sound};
 use published::{Naming, NewHistory};
 use std::alloc::Global;
 use std::process::Abort;
 use std::sync::{Arc, Wait};
-use store_access::{Filed, StoredRepository};
 use store_files::{FuseStore, MemoryStore, Store};
+use stored_repository::{Filed, StoredRepository};
 
 /// A repository that is shared, as one seat reaches it.
 pub(crate) type Access<'r, F, S, J, R> = ServedAccess<'r, F, S, J, R>;

@@ -18,8 +18,8 @@ use std::mem::drop;
 use std::process::Abort;
 use std::sync::Wait;
 use std::sync::atomic::AtomicBool;
-use store_access::StoredRepository;
 use store_files::Store;
+use stored_repository::StoredRepository;
 
 /// What two seats of a repository do, and what they are told.
 #[derive(Clone, Copy)]

@@ -7,14 +7,14 @@ use crate::places::{SoundTrees, opened};
 use crate::plays::{Play, is_played_over};
 use crate::stores::{TestStore, failing, whole};
 use access::{Released, RepoAccess};
-use filed_world::FiledWorld;
+use filed_repository::FiledWorld;
 use published::NewHistory;
 use repo_api::{ChangeFault, CommitAsk, Repository};
 use std::alloc::Global;
 use std::marker::Brand;
 use std::process::Abort;
-use store_access::StoredRepository;
 use store_files::{Left, Store};
+use stored_repository::StoredRepository;
 
 /// The token of the lock.
 const TOKEN: &[u8] = b"opaquelocktoken:00000000-0000-4000-8000-000000000001";

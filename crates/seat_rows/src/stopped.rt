@@ -12,8 +12,8 @@ use std::alloc::Global;
 use std::marker::Brand;
 use std::process::Abort;
 use std::sync::{Arc, Mutex, Wait};
-use store_access::StoredRepository;
 use store_files::{FileName, Left, Store};
+use stored_repository::StoredRepository;
 
 /// A call that changes a file.
 #[derive(Drop)]

@@ -1,6 +1,6 @@
 -- Addresses that are read one after another.
 use Rattle.std.proofs.Common.{◌≡◌, ◌⊎◌, inl, inr, ℕ, ◌+◌, ◌<◌, ◌≤◌, List, [], ◌∷◌, ◌++◌, Some, None, map, take, length, get_or, slice_get, sym, subst, arith}
-use Rattle.std.proofs.lemmas.{List.map_more, Option.slice_get_cases}
+use Rattle.std.proofs.{lemmas.List.map_more, lemmas.Option.slice_get_cases}
 use Rattle.std.specs.{Prelude.IfSome, Net.Grammar.IsSocketText, declared.net.socket_addr.SocketAddr.SocketAddr}
 use Rattle.serving.specs.Asked.{AreSocketTexts}
 

@@ -2,7 +2,7 @@
 ghost use Rattle.std.specs.Prelude.{◌≡◌, All, IfOk, map};
 ghost use Rattle.access.specs.Points.{content_of};
 ghost use Rattle.keepers.specs.Standing.{HaveSeenOpening};
-ghost use Rattle.published.specs.{Events.{point_of}, Moments.{shared_rules}};
+ghost use Rattle.published.specs.{Events.point_of, Moments.shared_rules};
 ghost use Rattle.repo_api.specs.Soundness.{AreSound};
 ghost use Rattle.serving.specs.Handing.{HandsIn};
 ghost use Rattle.session_pool.specs.Serving.{ServesInTurn, settings_of, stand};
@@ -24,8 +24,8 @@ use std::net::Net;
 use std::random::RandomSource;
 use std::sync::{Arc, Wait};
 use std::time::Clock;
-use store_access::{Filed, StoredRepository};
 use store_files::Store;
+use stored_repository::{Filed, StoredRepository};
 
 /// A seat of a repository as a session reaches it.
 pub type Access<'r, R, F, S, J> = ServedAccess<'r, F, S, J, R>;

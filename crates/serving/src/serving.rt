@@ -14,7 +14,7 @@ use crossbeam_channel::{Receiver, Sender, unbounded};
 use entrance::{
     ClientVisit, Entrance, Event, ReadOnce, Readings, Registry, take_all, too_few_files,
 };
-use filed_world::FiledWorld;
+use filed_repository::FiledWorld;
 use journals::{Journal, Room, write_lines};
 use published::Naming;
 use session_pool::SessionPool;
@@ -27,8 +27,8 @@ use std::sync::Wait;
 use std::thread;
 use std::thread::Threads;
 use std::time::Clock;
-use store_access::Filed;
 use store_files::{Store, StoreFault};
+use stored_repository::Filed;
 
 /// Takes connections at an entrance of a repository in files: for any repository, since at a named one the checker
 /// reaches its limit of steps.

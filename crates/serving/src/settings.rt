@@ -1,8 +1,7 @@
 //! What sessions are served by.
-ghost use Rattle.std.specs.Prelude.{◌≡◌, ◌<◌, ℕ, List, IfOk, IfSome, None, Some, length, map, slice_get, string_bytes};
+ghost use Rattle.std.specs.{Prelude.{◌≡◌, ◌<◌, ℕ, List, IfOk, IfSome, None, Some, length, map, slice_get, string_bytes}, Net.Grammar.IsSocketText};
 ghost use Rattle.cram.specs.UsersFile.{AreRight, file_lines, logins_of};
 ghost use Rattle.serving.specs.Asked.{AreSocketTexts, CountsAreAsked, OptionsAreAsked, PlaceIsAsked};
-ghost use Rattle.std.specs.Net.Grammar.{IsSocketText};
 
 use crate::fault::ServingFault;
 use crate::reason::Reason;

@@ -5,8 +5,8 @@ use Rattle.svnpath.specs.{Paths.PathValue, Urls.{path_of_text, root_of_text}, de
 use Rattle.repo_api.specs.States.{RepoState}
 use Rattle.wire_forms.specs.declared.fault.CommandFault.{CommandFault}
 use Rattle.commands.specs.declared.login.ClientGreeting.{ClientGreeting}
-use Rattle.drive_wire.specs.{declared.answering.ClientAnswer.ClientAnswer, declared.answering.ClientAnswer.TheVariants.Taken}
-use Rattle.drive_wire.specs.declared.answering.ClientAnswer.TheVariants as answers
+use Rattle.reporter.specs.{declared.answering.ClientAnswer.ClientAnswer, declared.answering.ClientAnswer.TheVariants.Taken}
+use Rattle.reporter.specs.declared.answering.ClientAnswer.TheVariants as answers
 use Rattle.machine.specs.{Answers.{Answer, malformed, no_effect, says}, Hearing.Input.Broken, Logins.{greeting_answer, speaks, url_answer}}
 use Rattle.machine.specs.{Machine.{InputStep, skipping_answer}, Reports.driven_answer, Settings.Settings, Stages.{is_open, Stage}, declared.env.Env.Env}
 use Rattle.machine.specs.declared.phase.Client.{Client}

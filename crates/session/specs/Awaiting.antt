@@ -1,8 +1,7 @@
 -- What a session waits for.
 use Rattle.machine.specs.declared.phase.Phase.{Phase}
 use Rattle.machine.specs.declared.phase.Phase.TheVariants.{Greeted, LoggingIn, Challenged, Serving, Editing, Skipping, Reporting, Driven, Ended}
-use Rattle.guests.specs.declared.awaited.Awaited.{Awaited}
-use Rattle.guests.specs.declared.awaited.Awaited.TheVariants.{Login, Command, Report, Edit, Nothing}
+use Rattle.guests.specs.{declared.awaited.Awaited.Awaited, declared.awaited.Awaited.TheVariants.{Login, Command, Report, Edit, Nothing}}
 
 -- what is awaited of a client in a phase
 abbrev pub awaited : {E G : Type 0} → Phase E G → Awaited

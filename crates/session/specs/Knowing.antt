@@ -1,7 +1,7 @@
 -- An input, where a text is read for it.
 use Rattle.wire_edits.specs.Editing.{editor_command}
-use Rattle.machine.specs.{Answers.Step, Hearing.Input, Hearing.Input.{Broken, Whole}, Machine.{EditingStep, InputStep}}
-use Rattle.machine.specs.{Settings.Settings, Stages.Stage, declared.env.Env.Env}
+use Rattle.machine.specs.{Answers.Step, Hearing.Input, Hearing.Input.{Broken, Whole}, Machine.{EditingStep, InputStep}, Settings.Settings, Stages.Stage}
+use Rattle.machine.specs.declared.env.Env.{Env}
 use Rattle.machine.specs.declared.phase.Phase.TheVariants.{Greeted, LoggingIn, Challenged, Serving, Editing, Skipping, Reporting, Driven, Ended}
 
 -- The machine's step at an input. Within an edit, the base of a text delta is the file's text where

@@ -8,7 +8,8 @@ use Rattle.commands.specs.{declared.command.LockCommand.LockCommand, declared.co
 use Rattle.repo_api.specs.{States.RepoState, declared.lock_ask.LockAsk.LockAsk, declared.lock_ask.UnlockAsk.UnlockAsk}
 use Rattle.wire_replies.specs.declared.reply.Reply.TheVariants as replies
 use Rattle.access.specs.Points.{content_of, Point}
-use Rattle.machine.specs.{Answers.{Answer, serves}, Commands.{lock_ask, LockingStep, unlock_ask, UnlockStep}, declared.env.Env.Env, declared.phase.Client.Client}
+use Rattle.machine.specs.{Answers.{Answer, serves}, Commands.{lock_ask, LockingStep, unlock_ask, UnlockStep}, declared.env.Env.Env}
+use Rattle.machine.specs.declared.phase.Client.{Client}
 use Rattle.session_changes.specs.Asked.{LockAsked, UnlockAsked}
 
 -- ---- a lock and an unlock

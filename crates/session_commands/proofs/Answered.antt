@@ -8,7 +8,7 @@ use Rattle.access.specs.Points.{AccessRules, content_of, Point}
 use Rattle.machine.specs.{Answers.{Answer, Behind, behind, no_effect, says, Step}, Commands.{commit_begins, reparented}, Settings.Settings, Stages.Stage}
 use Rattle.machine.specs.{declared.commit_parameters.CommitParameters.CommitParameters, declared.env.Env.Env, declared.phase.Phase.TheVariants.Reporting}
 use Rattle.machine.specs.declared.phase.Client.{Client}
-use Rattle.drive_reports.specs.Refusing.{ReportState}
+use Rattle.reporter.specs.Refusing.{ReportState}
 use Rattle.session_replies.proofs.Steps.{AnsweredWith, said, SteppedWith}
 
 -- the beginning of a commit changes nothing

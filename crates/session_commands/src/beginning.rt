@@ -2,16 +2,16 @@
 ghost use Rattle.std.specs.Prelude.{◌≡◌, ℕ, Bool, List, [], option_copied};
 ghost use Rattle.svnpath.specs.Paths.{PathValue};
 ghost use Rattle.repo_api.specs.States.{RepoState};
-ghost use Rattle.drive_reports.specs.Refusing.{ReportState, ask_of, begun_report};
+ghost use Rattle.reporter.specs.Refusing.{ReportState, ask_of, begun_report};
 ghost use Rattle.machine.specs.{Answers.{behind, says}, Commands.{diff_purpose, drive_ask}, Steps.{Answered, Looks}};
 ghost use Rattle.wire_replies.specs.Made.{Makes};
 ghost use Rattle.session_replies.specs.Telling.{told_before};
 
 use access::RepoAccess;
 use commands::DriveCommand;
-use drive_reports::{Anchor, Errand, Grafts, Purpose, Report, begin};
 use machine::{Client, OpenReporting, Options, Phase, Turn};
 use repo_api::Repository;
+use reporter::{Anchor, Errand, Grafts, Purpose, Report, begin};
 use session_replies::{Preface, SessionPhase, say_preface, stands};
 use std::alloc::{AllocError, Global};
 use std::mem::drop;

@@ -7,8 +7,7 @@ ghost use Rattle.wire_edits.specs.Editing.{editor_command};
 ghost use Rattle.edit_rules.specs.{Editor.{finished, RestsOn}, Edits.new_edit, Soundness.IsSoundEdit};
 ghost use Rattle.access.specs.Points.{content_of};
 ghost use Rattle.machine.specs.{Answers.says, Commands.{asked_by, commit_begins, lock_tokens}};
-ghost use Rattle.machine.specs.{Machine.{CloseStep, commit_ask, EditingStep, UnreleasedClose, UnreleasedEnd}};
-ghost use Rattle.machine.specs.Steps.{Answered, AnsweredIfAny, SteppedInPart};
+ghost use Rattle.machine.specs.{Machine.{CloseStep, commit_ask, EditingStep, UnreleasedClose, UnreleasedEnd}, Steps.{Answered, AnsweredIfAny, SteppedInPart}};
 ghost use Rattle.wire_replies.specs.{Made.Makes, Sinks.Says};
 ghost use Rattle.session_commits.specs.Telling.{tells_made, commit_answer};
 

@@ -3,8 +3,7 @@ use Rattle.std.specs.Prelude.{◌≡◌, ℕ, List, [], ◌∷◌, Option, Resul
 use Rattle.access.specs.Points.{AccessRules, Point}
 use Rattle.machine.specs.{declared.env.Env.Env, Settings.Settings}
 use Rattle.conversations.specs.{Conversation.{Served, sight}, declared.fault.TalkFault.TalkFault}
-use Rattle.session_pool.specs.Readings.{IsReadAgain}
-use Rattle.session_pool.specs.declared.{attendant.Attendant.Attendant, pool.SessionPool.SessionPool}
+use Rattle.session_pool.specs.{Readings.IsReadAgain, declared.attendant.Attendant.Attendant, declared.pool.SessionPool.SessionPool}
 
 -- the options of its sessions, the last moment of the repository that it was shown, and the source of
 -- what is handed in

@@ -8,7 +8,8 @@ use Rattle.traces.specs.declared.place.Place.{Place}
 use Rattle.history.specs.Logs.{place_at}
 use Rattle.file_histories.specs.FileRevisions.{file_revisions}
 use Rattle.commands.specs.declared.command.GetFileRevsCommand.{GetFileRevsCommand}
-use Rattle.machine.specs.{Answers.failure_at, Histories.{ended, file_revision_told, file_revisions_refusal, file_revisions_replies, listed_unless, or_youngest, told_in_turn}}
+use Rattle.machine.specs.Answers.{failure_at}
+use Rattle.machine.specs.Histories.{ended, file_revision_told, file_revisions_refusal, file_revisions_replies, listed_unless, or_youngest, told_in_turn}
 use Rattle.wire_replies.specs.{Replies.print, Sinks.WritesPart, declared.reply.Reply.Reply}
 use Rattle.wire_replies.specs.declared.reply.Reply.TheVariants as replies
 use Rattle.wire_replies.proofs.Parts.{both_written, part_all, part_behind, part_first}

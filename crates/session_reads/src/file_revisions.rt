@@ -7,9 +7,8 @@ ghost use Rattle.traces.specs.declared.place.Place.{Place};
 ghost use Rattle.text_deltas.specs.Deltas.{delta_chunks};
 ghost use Rattle.wire_deltas.specs.Texts.{text_or_empty};
 ghost use Rattle.wire_replies.specs.{Made.Makes, Sinks.Says, declared.reply.Reply.Reply};
-ghost use Rattle.machine.specs.Histories.{delta_told, ended, file_revision_head, file_revision_told, file_revisions_refusal, file_revisions_replies, has_text_of};
-ghost use Rattle.machine.specs.Histories.{properties_before, text_before, told_in_turn};
-ghost use Rattle.machine.specs.Readings.{entry_properties};
+ghost use Rattle.machine.specs.Histories.{delta_told, ended, file_revision_head, file_revision_told, file_revisions_refusal, file_revisions_replies};
+ghost use Rattle.machine.specs.{Histories.{has_text_of, properties_before, text_before, told_in_turn}, Readings.entry_properties};
 
 use crate::asked::FileRevisionsAsked;
 use crate::files::no_file;

@@ -5,10 +5,9 @@ ghost use Rattle.repo_api.specs.Locking.{at_or_under};
 ghost use Rattle.machine.specs.Commands.{lock_at, locks_reply};
 ghost use Rattle.wire_replies.specs.{Made.Makes, Sinks.Says};
 
-use byte_string::ByteString;
+use byte_string::{ByteString, Sequence};
 use refusals::path_refusal;
 use repo_api::Repository;
-use sequence::Sequence;
 use std::alloc::{AllocError, Global};
 use svnpath::{Path, PathFault};
 use wire_replies::{LockList, Reply, ReplySink, copied_locks, say_locks, tell_refusal};

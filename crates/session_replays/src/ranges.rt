@@ -1,6 +1,5 @@
 //! What revisions did, one after another. Where one of these fails, a part of what it says was written.
-ghost use Rattle.std.specs.Prelude.{◌++◌, ◌∷◌, ◌-◌, ◌+◌, []};
-ghost use Rattle.std.specs.List.{flat_map, range_with_len};
+ghost use Rattle.std.specs.{Prelude.{◌++◌, ◌∷◌, ◌-◌, ◌+◌, []}, List.{flat_map, range_with_len}};
 ghost use Rattle.repo_api.specs.Kinds.{properties_at};
 ghost use Rattle.machine.specs.Replays.{replay_range_replies, revision_replayed};
 ghost use Rattle.wire_replies.specs.{Made.Makes, Sinks.Says};

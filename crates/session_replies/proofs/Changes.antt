@@ -8,9 +8,9 @@ use Rattle.repo_api.specs.declared.fault.ChangeFault.TheVariants as change_fault
 use Rattle.wire_replies.specs.declared.reply.Reply.{Reply}
 use Rattle.wire_replies.specs.declared.reply.Reply.TheVariants as replies
 use Rattle.access.specs.{Changing.ReplacesAt, Points.{AccessRules, content_of, Point}}
-use Rattle.machine.specs.{Answers.{Answer, Behind, behind, change_answer, ChangeStep, failure_at, path_of_change, refuses, says, Step, Verdict}, Answers.Verdict.{NotWritten, Unknown, Written}}
-use Rattle.machine.specs.{Stages.Stage, Steps.{EffectAt, StepAt}, declared.env.Env.Env, declared.phase.Client.Client}
-use Rattle.machine.specs.declared.phase.Phase.TheVariants.{Serving, Ended}
+use Rattle.machine.specs.Answers.{Answer, Behind, behind, change_answer, ChangeStep, failure_at, path_of_change, refuses, says, Step, Verdict}
+use Rattle.machine.specs.{Answers.Verdict.{NotWritten, Unknown, Written}, Stages.Stage, Steps.{EffectAt, StepAt}, declared.env.Env.Env}
+use Rattle.machine.specs.{declared.phase.Client.Client, declared.phase.Phase.TheVariants.{Serving, Ended}}
 use Rattle.session_replies.specs.Telling.{fault_answer}
 use Rattle.session_replies.proofs.Steps.{AnsweredIfAnyWith, Leads, leads_by, leads_behind, stepped, SteppedWith, not_asked}
 

@@ -2,11 +2,11 @@
 ghost use Rattle.std.specs.Prelude.{◌≡◌, IsErr, IsOk, MatchResult};
 ghost use Rattle.machine.specs.{Answers.malformed, Steps.Answered};
 
-use drive_reports::Grafts;
 use editor::CommitEditor;
 use machine::{OpenEdit, OpenReporting, Phase, Turn};
 use refusals::Refusal;
 use repo_api::Repository;
+use reporter::Grafts;
 use std::alloc::AllocError;
 use std::mem::drop;
 use wire_replies::{ReplySink, tell_refusal};

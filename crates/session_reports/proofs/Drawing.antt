@@ -4,9 +4,9 @@ use Rattle.std.specs.Prelude.{Result, Ok, Err, IfOk, Some}
 use Rattle.refusals.specs.{declared.Refusal.Refusal, declared.fault.NotDone.NotDone}
 use Rattle.repo_api.specs.{Soundness.AreTrees, States.RepoState}
 use Rattle.wire_edits.specs.declared.editing.EditorCommand.{EditorCommand}
-use Rattle.drive_reports.specs.{Judging.JudgesReport, Refusing.{◌>>=◌, OpenState, finish_root}, declared.report.ReportRoot.ReportRoot}
+use Rattle.reporter.specs.{Judging.JudgesReport, Refusing.{◌>>=◌, OpenState, finish_root}, declared.report.ReportRoot.ReportRoot}
+use Rattle.reporter.specs.{Reporting.{Drawn, Finishes, EndStep}, Reporting.Drawn.{GoesOn, GivenUp, Fails, Drives, Malformed}, Sent.IsDrive}
 use Rattle.refusals.specs.declared.fault.NotDone.TheVariants as faults
-use Rattle.drive_wire.specs.{Reporting.{Drawn, Finishes, EndStep}, Reporting.Drawn.{GoesOn, GivenUp, Fails, Drives, Malformed}, Sent.IsDrive}
 use Rattle.access.specs.Points.{AccessRules, content_of, Point}
 use Rattle.machine.specs.{Answers.{no_effect, says, Step}, Reports.{drawn_answer, Draws}, Stages.Stage, Steps.StepOrNothing, declared.env.Env.Env}
 use Rattle.machine.specs.{declared.phase.Client.Client, declared.phase.Phase.TheVariants.Driven}

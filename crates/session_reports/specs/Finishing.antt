@@ -1,7 +1,7 @@
 -- The end of a report, as it is written.
 use Rattle.std.specs.Prelude.{◌≡◌, ◌⊎◌, ℕ, List, [], Ok, Err, MatchResult, Result}
 use Rattle.repo_api.specs.States.{RepoState}
-use Rattle.drive_reports.specs.{Refusing.{OpenState, finish_root}, declared.report.ReportRoot.ReportRoot}
+use Rattle.reporter.specs.{Refusing.{OpenState, finish_root}, declared.report.ReportRoot.ReportRoot}
 use Rattle.refusals.specs.declared.fault.NotDone.{NotDone}
 use Rattle.refusals.specs.declared.fault.NotDone.TheVariants as faults
 use Rattle.drive_sides.specs.Plans.{whole}

@@ -1,14 +1,14 @@
 //! The client's answer to a drive.
 ghost use Rattle.std.specs.Prelude.{◌∷◌, [], Some};
 ghost use Rattle.items.specs.View.{value_of};
-ghost use Rattle.drive_wire.specs.{Reporting.client_answer, declared.answering.ClientAnswer.ClientAnswer};
+ghost use Rattle.reporter.specs.{Reporting.client_answer, declared.answering.ClientAnswer.ClientAnswer};
 ghost use Rattle.machine.specs.{Answers.{says, serves}, Reports.driven_answer, Steps.Answered};
 ghost use Rattle.wire_replies.specs.Sinks.{Says};
 
-use drive_wire::ClientAnswer;
 use items::Item;
 use machine::{Client, Phase, Turn, drive_failure};
 use repo_api::Repository;
+use reporter::ClientAnswer;
 use session_replies::{Preface, SessionPhase, end_malformed, stands, tell};
 use std::alloc::AllocError;
 use std::mem::drop;

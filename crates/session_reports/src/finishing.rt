@@ -4,15 +4,15 @@ ghost use Rattle.repo_api.specs.Soundness.{AreSound, AreTrees};
 ghost use Rattle.access.specs.Points.{content_of};
 ghost use Rattle.session_reports.specs.Finishing.{EndsReport};
 ghost use Rattle.machine.specs.{Reports.Draws, Steps.{Stepped, Looks}};
-ghost use Rattle.drive_wire.specs.Reporting.{EndStep};
+ghost use Rattle.reporter.specs.Reporting.{EndStep};
 
 use crate::refused::tell_refused;
 use access::RepoAccess;
-use drive_reports::{Grafts, OpenReport};
 use drive_sending::say_drive;
 use machine::{Client, Phase, Turn};
 use refusals::NotDone;
 use repo_api::Repository;
+use reporter::{Grafts, OpenReport};
 use session_replies::SessionPhase;
 use std::alloc::{AllocError, Global};
 use std::mem::drop;
@@ -36,7 +36,7 @@ fn say_end<R: Repository, S: ReplySink>(
     requires trees { AreTrees (R.content view.now).revisions }
     ensures { EndsReport result (R.content view.now) report.now (S.writes out.old out.new) }
 {
-    match drive_reports::finish(alloc, view, report) {
+    match reporter::finish(alloc, view, report) {
         Ok(root) => match say_drive(alloc, view, report, root, out) {
             Ok(()) => Ok(()),
             Err(_) => Err(NotDone::NoMemory),

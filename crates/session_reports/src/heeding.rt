@@ -1,8 +1,7 @@
 //! The commands of a report that goes on.
 ghost use Rattle.std.specs.Prelude.{◌≡◌, Ok, option_copied};
 ghost use Rattle.repo_api.specs.Soundness.{AreSound};
-ghost use Rattle.drive_reports.specs.Refusing.{delete_path_report, set_path_report};
-ghost use Rattle.drive_wire.specs.Reporting.{OpenStep};
+ghost use Rattle.reporter.specs.{Refusing.{delete_path_report, set_path_report}, Reporting.OpenStep};
 ghost use Rattle.access.specs.Points.{content_of};
 ghost use Rattle.machine.specs.{Reports.Draws, Steps.{Stepped, Looks}};
 ghost use Rattle.wire_replies.specs.Made.{Makes};
@@ -10,9 +9,9 @@ ghost use Rattle.wire_replies.specs.Made.{Makes};
 use crate::finishing::{OpenErrand, finish};
 use access::RepoAccess;
 use byte_string::ByteString;
-use drive_reports::{Grafts, Link, OpenReport, Report};
 use machine::{OpenReporting, Options, Phase, Turn};
 use repo_api::Repository;
+use reporter::{Grafts, Link, OpenReport, Report};
 use session_replies::SessionPhase;
 use std::alloc::{AllocError, Global};
 use std::mem::drop;
@@ -33,7 +32,7 @@ fn set_path_now<R: Repository, A: RepoAccess<View = R>>(
         (option_copied link.entry.url))) }
 {
     match access.look() {
-        Ok(view) => drive_reports::set_path(alloc, &view, name, report, link),
+        Ok(view) => reporter::set_path(alloc, &view, name, report, link),
         Err(error) => {
             drop(report);
             Err(error)
@@ -79,7 +78,7 @@ fn delete_path<R: Repository>(
     })) }
 {
     let OpenErrand { client, report } = errand;
-    match drive_reports::delete_path(alloc, report, text) {
+    match reporter::delete_path(alloc, report, text) {
         Ok(report) => Ok(Phase::Reporting(OpenReporting { client, report })),
         Err(error) => {
             drop(client);

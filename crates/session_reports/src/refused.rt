@@ -2,14 +2,14 @@
 ghost use Rattle.std.specs.Prelude.{◌≡◌};
 ghost use Rattle.items.specs.View.{value_of};
 ghost use Rattle.wire_reports.specs.Reporting.{name_of};
-ghost use Rattle.drive_wire.specs.{Reporting.refused_drawn, Reporting.Drawn.Fails};
+ghost use Rattle.reporter.specs.{Reporting.refused_drawn, Reporting.Drawn.Fails};
 ghost use Rattle.machine.specs.{Reports.drawn_answer, Steps.Answered};
 
-use drive_reports::Report;
 use items::Item;
 use machine::{Client, OpenReporting, Phase, Turn};
 use refusals::Refusal;
 use repo_api::Repository;
+use reporter::Report;
 use session_replies::{Preface, SessionPhase, end_malformed, refuse_at};
 use std::alloc::AllocError;
 use std::mem::drop;

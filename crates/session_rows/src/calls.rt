@@ -3,9 +3,8 @@
 use crate::hubs::{ENV, GREETING, are, new_hub, options_of_r};
 use access::SoleAccess;
 use conversations::OutputSink;
-use flatrepo::FlatRepo;
+use flatrepo::{FlatRepo, InMemory};
 use hub::{Call, Hub, Outcome, make_calls};
-use in_memory::InMemory;
 use machine::Turn;
 use std::alloc::Global;
 use std::io;

@@ -3,7 +3,7 @@ ghost use Rattle.std.specs.Prelude.{◌≡◌};
 
 use crate::connections::{GREETING, LOGIN, WELCOME};
 use crate::repositories::{desks_at, empty_repository};
-use filed_world::FiledWorld;
+use filed_repository::FiledWorld;
 use machine::Options;
 use published::{Naming, NewHistory};
 use serving::{Server, Settings, serve_connections};

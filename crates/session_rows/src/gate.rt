@@ -8,7 +8,7 @@ use crate::connections::{AT_ZERO, Call, Client, LOGIN, MemoryVisit, NEVER, WELCO
 use crate::repositories::{desks_at, empty_repository};
 use conversations::{Awaited, Gate, Unwatched};
 use crossbeam_channel::Receiver;
-use filed_world::FiledWorld;
+use filed_repository::FiledWorld;
 use machine::Options;
 use published::{Naming, NewHistory};
 use serving::Desk;
@@ -23,8 +23,8 @@ use std::sync::atomic::{AtomicBool, AtomicU64, Ordering};
 use std::thread;
 use std::thread::Threads;
 use std::time::{Clock, Duration};
-use store_access::Filed;
 use store_files::{MemoryStore, Store};
+use stored_repository::Filed;
 
 /// How often the gate looks at the mark at most.
 const MOST_TURNS: u64 = 100_000;

@@ -1,8 +1,8 @@
 //! Hubs of new repositories, and the bytes of their sessions.
 
 use access::SoleRepository;
+use flatrepo::InMemory;
 use hub::{Env, Hub, Options};
-use in_memory::InMemory;
 use std::alloc::Global;
 use std::process::Abort;
 

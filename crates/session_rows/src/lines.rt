@@ -2,9 +2,8 @@
 
 use crate::hubs::{ENV, new_hub, options_of_r};
 use access::RepoAccess;
-use flatrepo::FlatRepo;
+use flatrepo::{FlatRepo, InMemory};
 use history::{Place, is_one_line};
-use in_memory::InMemory;
 use repo_api::Repository;
 use std::alloc::Global;
 use std::mem::drop;

@@ -7,8 +7,7 @@ ghost use Rattle.repo_api.specs.Soundness.{AreSound};
 use crate::connections::{MemoryVisit, Still};
 use conversations::{Gate, Watch};
 use crossbeam_channel::Receiver;
-use filed_opening::{FolderRepository, create, open, opened_trees_are_sound};
-use filed_world::FiledWorld;
+use filed_repository::{FiledWorld, FolderRepository, create, open, opened_trees_are_sound};
 use published::{Naming, NewHistory};
 use serving::{Desks, desks_of};
 use session_pool::SessionPool;
@@ -18,8 +17,8 @@ use std::process::Abort;
 use std::random::RandomSource;
 use std::sync::Wait;
 use std::time::Clock;
-use store_access::{Filed, StoredRepository};
 use store_files::{MemoryStore, Store};
+use stored_repository::{Filed, StoredRepository};
 
 /// The number that names the repository.
 const UUID: u128 = 0x0000_0000_0000_4000_8000_0000_0000_0000;

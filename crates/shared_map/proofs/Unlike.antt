@@ -1,8 +1,8 @@
 -- Entries that are among others or listed.
-use Rattle.std.proofs.Common.{◌≡◌, ◌<◌, ◌+◌, ◌⊎◌, inl, inr, ℕ, zero, suc, cond, length, get_or, take, map, arith, List, [], ◌∷◌, ◌++◌, Some, refl, sym, ap, subst, ◌∙◌}
-use Rattle.std.proofs.{lemmas.Bool.false≢true, lemmas.Option.none-some, lemmas.List.{map-append, take_more}}
+use Rattle.std.proofs.Common.{◌≡◌, ◌<◌, ◌+◌, ◌⊎◌, inl, inr, ℕ, zero, suc, cond, length, get_or, take, map, arith, List, [], ◌∷◌, ◌++◌, Some, refl, sym, ap}
+use Rattle.std.proofs.{Common.{subst, ◌∙◌}, lemmas.Bool.false≢true, lemmas.Option.none-some, lemmas.List.{map-append, take_more}}
 use Rattle.std.proofs.lemmas.List.Elements.{All-from_recursion, All-contains, Contains-append_left, Contains-append_right, Contains-push}
-use Rattle.std.specs.{Borrow.Bor, Map.Iter.deref, Prelude.{T}, List.{All, AllByRecursion, Contains}, FinMap.{get, from_sorted}, FinMap.Entries.{is_sorted, find}}
+use Rattle.std.specs.{Borrow.Bor, Map.Iter.deref, Prelude.T, List.{All, AllByRecursion, Contains}, FinMap.{get, from_sorted}, FinMap.Entries.{is_sorted, find}}
 use Rattle.std.specs.{Ordering.{is_eq, is_lt, ordering_reverse}, declared.cmp.Ordering.Ordering, declared.cmp.Ordering.TheVariants.{Less, Equal, Greater}}
 use Rattle.shared_map.specs.Entries.{by_bytes}
 use Rattle.shared_map.proofs.{Copies.{read, same_some}, Maps.{total, same_name, map_get}, Ordered.all_append, Places.{here, one_found}}

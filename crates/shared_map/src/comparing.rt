@@ -1,6 +1,5 @@
 //! The entries that one map has and another has not.
-ghost use Rattle.std.specs.{Prelude.{◌≡◌, ◌++◌, ◌∷◌, ◌⊎◌, [], true, map, IfOk, OnOk}, Map.Iter.deref};
-ghost use Rattle.std.specs.List.{AllByRecursion, Contains};
+ghost use Rattle.std.specs.{Prelude.{◌≡◌, ◌++◌, ◌∷◌, ◌⊎◌, [], true, map, IfOk, OnOk}, Map.Iter.deref, List.{AllByRecursion, Contains}};
 
 use crate::parts::Entry;
 use crate::same::{Same, is_entry};
@@ -17,8 +16,8 @@ fn stands_at<V: Same>(entries: &[&Entry<V>], place: usize, entry: &Entry<V>) -> 
     is_entry(other, &entry.0, &entry.1)
 }
 
-/// Finds the first place, from this one on, that has the name of the entry or a later one. Where it is the next place that has the
-/// entry, as among others that are mostly the same, no other is looked at.
+/// Finds the first place, from this one on, that has the name of the entry or a later one. The next
+/// place is looked at first: it has the entry where most of the others are the same.
 fn place_from<V: Same>(others: &[&Entry<V>], from: usize, entry: &Entry<V>) -> usize {
     let next = from.saturating_add(1);
     if stands_at(others, next, entry) {

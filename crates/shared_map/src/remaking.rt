@@ -1,8 +1,6 @@
 //! A map of rows that are mostly those of another map.
-ghost use Rattle.std.specs.Prelude.{◌≡◌, ◌<◌, ◌≤◌, ◌++◌, true, length, take, drop, IfOk, OnOk, Decides, T};
-ghost use Rattle.std.specs.{FinMap.Entries.is_sorted, List.AllByRecursion};
-ghost use Rattle.shared_map.specs.Entries.{by_bytes, values, part_entries, all_entries, AreParts, IsFilled};
-ghost use Rattle.shared_map.specs.Rows.{row_entries};
+ghost use Rattle.std.specs.{Prelude.{◌≡◌, ◌<◌, ◌≤◌, ◌++◌, true, length, take, drop, IfOk, OnOk, Decides, T}, FinMap.Entries.is_sorted, List.AllByRecursion};
+ghost use Rattle.shared_map.specs.{Entries.{by_bytes, values, part_entries, all_entries, AreParts, IsFilled}, Rows.row_entries};
 
 use crate::parts::{Entry, PART_LIMIT, Part, limit_among};
 use crate::same::{Same, is_entry};

@@ -1,7 +1,6 @@
 //! The map as a whole.
-ghost use Rattle.std.specs.Prelude.{◌≡◌, ◌⊎◌, ℕ, List, Some, T, map, IfOk, OnOk, OnErr, option_copied};
-ghost use Rattle.std.specs.{FinMap.{empty, get, insert, remove, entries, keys}, FinMap.Entries.is_sorted, List.{All, Contains}};
-ghost use Rattle.std.specs.{List.Sorted.IsStrictlySortedBy, Map.Iter.deref};
+ghost use Rattle.std.specs.{Prelude.{◌≡◌, ◌⊎◌, ℕ, List, Some, T, map, IfOk, OnOk, OnErr, option_copied}, FinMap.{empty, get, insert, remove, entries, keys}};
+ghost use Rattle.std.specs.{FinMap.Entries.is_sorted, List.{All, Contains}, List.Sorted.IsStrictlySortedBy, Map.Iter.deref};
 ghost use Rattle.shared_map.specs.{Entries.by_bytes, Rows.row_entries};
 
 use crate::comparing::unlike;

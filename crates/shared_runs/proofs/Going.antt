@@ -5,7 +5,7 @@ use Rattle.svnpath.specs.Paths.{PathValue}
 use Rattle.repo_api.specs.{Accepted.{Accepted, AreAccepted, changed}, Accepted.Accepted.{ChangesProperty, Commits, Locks, Releases, Unlocks}, Commits.next_tree}
 use Rattle.repo_api.specs.{Marks.{MeetWell, own_of, shown}, Merge.is_changed, States.{RepoState, tree_at, tree_of, trees_in, TxnState, youngest}}
 use Rattle.published.specs.Changes.{AreRight}
-use Rattle.hub_runs.specs.Laws.{AllKeepSides}
+use Rattle.hub.specs.Laws.{AllKeepSides}
 
 pub are_accepted : (c : RepoState) (es : List Accepted) → AreRight c es → AreAccepted c es
 are_accepted c [] right = tt

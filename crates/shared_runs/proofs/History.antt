@@ -2,7 +2,7 @@
 use Rattle.std.proofs.Common.{◌≡◌, ℕ, Bool, List, ◌∷◌, ◌++◌, ap, ◌∙◌}
 use Rattle.std.specs.Prelude.{if◌then◌else◌}
 use Rattle.repo_api.specs.Accepted.{Accepted}
-use Rattle.published.specs.Events.{Event, Event.Makes, own_in}
+use Rattle.published.specs.{Events.{Event, own_in}, Events.Event.Makes}
 use Rattle.published.proofs.Histories.{own_more, same_number}
 
 -- a change stands between what its author made before it and after it

@@ -6,8 +6,8 @@ use Rattle.access.specs.Points.{AccessRules, content_of, Point}
 use Rattle.wire_replies.specs.declared.reply.Reply.{Reply}
 use Rattle.machine.specs.{Answers.{Answer, Step, Verdict}, Answers.Verdict.{NotWritten, Unknown, Written}, Hearing.Input, Settings.Settings, Stages.Stage}
 use Rattle.machine.specs.{Steps.{AddsAll, FeedLost, Leaves, SessionRun, StepAt, Stores}, declared.env.Env.Env, declared.phase.Phase.TheVariants.Greeted}
-use Rattle.hub_runs.specs.Asked.{AreAll, IsAsked}
-use Rattle.hub_runs.proofs.Effects.{does, leaves}
+use Rattle.hub.specs.Asked.{AreAll, IsAsked}
+use Rattle.hub.proofs.Effects.{does, leaves}
 use Rattle.conversations.specs.{Pieces.Piece, declared.fault.TalkFault.TalkFault, declared.fault.TalkFault.TheVariants.{Read, Write, TooLong, NoMemory}}
 use Rattle.conversations.specs.Conversation.{Breaks, Converses, PiecesAt, Served, Sight, sight}
 use Rattle.session_pool.specs.Serving.{IsServed, ServesAll, ServesInTurn, Stand, stand}

@@ -1,7 +1,7 @@
 -- How a repository that threads share goes on.
 use Rattle.std.specs.Prelude.{List}
 use Rattle.repo_api.specs.{Accepted.Accepted, Soundness.AreSound, States.{IsBeginning, RepoState}}
-use Rattle.hub_runs.specs.{Done.GoesOnBy, Laws.{AllKeepSides, KeepsOtherProperties, RespectLocks}}
+use Rattle.hub.specs.{Done.GoesOnBy, Laws.{AllKeepSides, KeepsOtherProperties, RespectLocks}}
 
 -- from the one to the other by these changes: each was accepted where it was made; a commit among them
 -- overwrites nothing that was changed since its base; they respect locks; old revisions stay, and so does

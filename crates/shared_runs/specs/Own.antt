@@ -1,9 +1,9 @@
 -- Which changes of a repository that others change too are a session's own: those that its inputs ask for.
 use Rattle.std.specs.Prelude.{◌≡◌, ◌⊎◌, Bool, List, [], ◌∷◌, ◌++◌, Option, Some, None}
 use Rattle.repo_api.specs.{Accepted.Accepted, States.RepoState}
-use Rattle.machine.specs.{Answers.Answer, Hearing.Input, Machine.{InputStep, UnreleasedStep}, Settings.Settings}
-use Rattle.machine.specs.{Stages.Stage, declared.env.Env.Env, declared.phase.Phase.TheVariants.Greeted}
-use Rattle.hub_runs.specs.Asked.{AreAll, IsAsked}
+use Rattle.machine.specs.{Answers.Answer, Hearing.Input, Machine.{InputStep, UnreleasedStep}, Settings.Settings, Stages.Stage, declared.env.Env.Env}
+use Rattle.machine.specs.declared.phase.Phase.TheVariants.{Greeted}
+use Rattle.hub.specs.Asked.{AreAll, IsAsked}
 use Rattle.conversations.specs.Pieces.{Piece}
 use Rattle.session_pool.specs.Readings.{IsReadAgain}
 

@@ -5,7 +5,7 @@ ghost use Rattle.access.specs.Points.{Point};
 ghost use Rattle.wire_replies.specs.declared.reply.Reply.{Reply};
 ghost use Rattle.machine.specs.{Settings.Settings, Stages.Stage, Steps.FeedLost, declared.env.Env.Env};
 ghost use Rattle.conversations.specs.{Conversation.PiecesAt, Pieces.Piece};
-ghost use Rattle.published.specs.Events.{Event, Event.Makes, IsHistory, changes_in, own_in, state_of};
+ghost use Rattle.published.specs.{Events.{Event, IsHistory, changes_in, own_in, state_of}, Events.Event.Makes};
 ghost use Rattle.session_pool.specs.Serving.{ServesInTurn, Stand};
 ghost use Rattle.shared_runs.specs.{Histories.GoesOnWell, Own.{OwnInTurn, OwnOfBroken, OwnPieces}};
 

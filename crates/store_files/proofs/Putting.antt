@@ -1,9 +1,11 @@
 -- One file more in memory.
-use Rattle.std.proofs.{Common.{◌≡◌, inl, inr, ℕ, zero, suc, Bool, true, false, cond, List, ◌∷◌, Option, Some, refl, sym, ap, ◌∙◌, arith}, lemmas.Bool.Decides.nat_tests}
+use Rattle.std.proofs.Common.{◌≡◌, inl, inr, ℕ, zero, suc, Bool, true, false, cond, List, ◌∷◌, Option, Some, refl, sym, ap, ◌∙◌, arith}
+use Rattle.std.proofs.lemmas.Bool.Decides.{nat_tests}
 use Rattle.std.specs.{Prelude.{◌==◌, ◌&&◌, ◌<◌, Vec}, BTreeMap.{BTreeMap, get, is_at}, Ordering.{nat_cmp, ordering_then, is_eq}, declared.alloc.Global.Global}
 use Rattle.std.specs.{declared.cmp.Ordering.Ordering, declared.cmp.Ordering.TheVariants.{Less, Equal, Greater}}
-use Rattle.store_files.specs.{Names.{Numbers, kind_of, shard_of, number_of, numbers_of, same_name}, NameLaws.same_name_tells, Folders.{Folder, IsSame, SameBut, bytes_of, nothing, with_file}}
-use Rattle.store_files.specs.{Memory.{by_numbers, files_of}, NameLaws.{named_is}, Names.named, Note.Event, Replay.{held, Leaves}, declared.name.FileName.FileName}
+use Rattle.store_files.specs.{Names.{Numbers, kind_of, shard_of, number_of, numbers_of, same_name, named}, NameLaws.{same_name_tells, named_is}}
+use Rattle.store_files.specs.{Folders.{Folder, IsSame, SameBut, bytes_of, nothing, with_file}, Memory.{by_numbers, files_of}, Note.Event, Replay.{held, Leaves}}
+use Rattle.store_files.specs.declared.name.FileName.{FileName}
 
 both : (o p : Ordering) → is_eq (ordering_then o p) ≡ is_eq o && is_eq p
 both Less p = refl

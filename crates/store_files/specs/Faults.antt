@@ -1,10 +1,9 @@
 -- Faults of files and of replacements, told as faults of a store.
 use Rattle.std.specs.Prelude.{Result, Ok, Err}
-use Rattle.fsfs_lines.specs.declared.fault.FileFault.{FileFault}
-use Rattle.fsfs_lines.specs.declared.fault.FileFault.TheVariants.{Truncated, BadLine, Delta, Digest, Dangling, WrongFormat, NoMemory}
-use Rattle.store_files.specs.declared.fault.StoreFault.{StoreFault}
+use Rattle.fsfs_text.specs.declared.fault.FileFault.{FileFault}
+use Rattle.fsfs_text.specs.declared.fault.FileFault.TheVariants.{Truncated, BadLine, Delta, Digest, Dangling, WrongFormat, NoMemory}
+use Rattle.store_files.specs.{declared.fault.StoreFault.StoreFault, declared.fault.ReplaceFault.ReplaceFault}
 use Rattle.store_files.specs.declared.fault.StoreFault.TheVariants as store
-use Rattle.store_files.specs.declared.fault.ReplaceFault.{ReplaceFault}
 use Rattle.store_files.specs.declared.fault.ReplaceFault.TheVariants as replace
 
 -- want of memory is no fault of a file

@@ -1,7 +1,8 @@
 -- Files in memory.
-use Rattle.std.specs.{Prelude.{ℕ, ◌∷◌, [], List, Vec, Result, Ok, Err}, BTreeMap.{BTreeMap, get}, Ordering.{nat_cmp, ordering_then}, declared.alloc.Global.Global}
-use Rattle.std.specs.declared.cmp.Ordering.{Ordering}
-use Rattle.store_files.specs.{Folders.{Folder, bytes_of}, Names.{Numbers, kind_of, shard_of, number_of, numbers_of}, Note.{Event, event_of}, declared.name.FileName.FileName}
+use Rattle.std.specs.{Prelude.{ℕ, ◌∷◌, [], List, Vec, Result, Ok, Err}, BTreeMap.{BTreeMap, get}, Ordering.{nat_cmp, ordering_then}}
+use Rattle.std.specs.{declared.alloc.Global.Global, declared.cmp.Ordering.Ordering}
+use Rattle.store_files.specs.{Folders.{Folder, bytes_of}, Names.{Numbers, kind_of, shard_of, number_of, numbers_of}, Note.{Event, event_of}}
+use Rattle.store_files.specs.declared.name.FileName.{FileName}
 
 -- by their kinds, then by their shards, then by their revisions
 abbrev pub by_numbers : Numbers → Numbers → Ordering

@@ -1,9 +1,8 @@
 -- What a folder holds, and what a stop leaves of it, by the calls that were made.
 use Rattle.std.specs.Prelude.{◌≡◌, ◌⊎◌, ◌≤◌, ℕ, zero, suc, ◌+◌, min, List, [], ◌∷◌, Option, Some, None, length}
 use Rattle.std.proofs.Common.{inl, inr, arith}
-use Rattle.store_files.specs.{Folders.{Folder, IsSame, Scribbled, Swapped, with_file}, Moments.last_count}
-use Rattle.store_files.specs.declared.name.FileName.{FileName}
-use Rattle.store_files.specs.{Names.named, Note.Event}
+use Rattle.store_files.specs.{Folders.{Folder, IsSame, Scribbled, Swapped, with_file}, Moments.last_count, declared.name.FileName.FileName, Names.named}
+use Rattle.store_files.specs.Note.{Event}
 
 -- calls: 0 reads, 1 writes anew, 2 replaces; answers: 0 it is done, 1 the device failed, 2 memory was
 -- refused, 3 there is no such file, 4 the device failed before a replacement had changed anything

@@ -1,5 +1,5 @@
 //! Why the files of a repository were not read, written or replaced.
-use fsfs_lines::FileFault;
+use fsfs_text::FileFault;
 use std::alloc::{AllocError, AllocFailed};
 use thiserror::Error;
 

@@ -1,6 +1,7 @@
 //! The files of a repository, by their names.
 ghost use Rattle.std.specs.Prelude.{◌≡◌, ◌⊎◌, ◌≤◌, ◌<◌, ◌↔◌, ℕ, Some, IfOk, OnOk, IsErrOf};
-ghost use Rattle.store_files.specs.{Faults.{IsRefused, as_told}, Folders.{Folder, IsSame, SameBut, Scribbled, Swapped, bytes_of}, Moments.{Elapses, HasCause, last_count}};
+ghost use Rattle.store_files.specs.{Faults.{IsRefused, as_told}, Folders.{Folder, IsSame, SameBut, Scribbled, Swapped, bytes_of}};
+ghost use Rattle.store_files.specs.Moments.{Elapses, HasCause, last_count};
 
 use crate::fault::{ReplaceFault, StoreFault};
 use crate::name::FileName;

@@ -1,13 +1,12 @@
 -- Answers are counted where the device failed.
 use Rattle.std.proofs.{Common.{◌≡◌, inl, inr, ℕ, List, ◌∷◌, Result, Ok, Err, refl, sym, subst, arith, le_refl}, lemmas.Bool.cases_lt}
 use Rattle.std.specs.Prelude.{◌+◌, ◌≤◌, min}
-use Rattle.store_files.specs.{Moments.{HasCause, HasRisen, last_count}, declared.fault.StoreFault.StoreFault}
+use Rattle.store_files.specs.{Moments.{HasCause, HasRisen, last_count}, declared.fault.StoreFault.StoreFault, Faults.as_told}
+use Rattle.store_files.specs.{declared.fault.ReplaceFault.ReplaceFault, Names.Numbers, Note.Event, Replay.{failed_in, count_after, failed_is}}
 use Rattle.store_files.specs.declared.fault.StoreFault.TheVariants as faults
-use Rattle.store_files.specs.{Faults.as_told, declared.fault.ReplaceFault.ReplaceFault}
 use Rattle.store_files.specs.declared.fault.ReplaceFault.TheVariants as replace
-use Rattle.store_files.specs.{Names.Numbers, Note.Event, Replay.{failed_in, count_after, failed_is}}
-use Rattle.store_folder.specs.Answers.{fault_of, trouble_number, done_number, done_result, replaced_number}
-use Rattle.store_folder.specs.{declared.fault.Trouble.Trouble, declared.fault.Trouble.TheVariants.{Device, NoMemory}}
+use Rattle.store_folder.specs.{Answers.{fault_of, trouble_number, done_number, done_result, replaced_number}, declared.fault.Trouble.Trouble}
+use Rattle.store_folder.specs.declared.fault.Trouble.TheVariants.{Device, NoMemory}
 
 rises : (x : ℕ) → x ≤ last_count → HasRisen x (min (x + 1) last_count)
 rises x few = elim (cases_lt x last_count) [

@@ -1,6 +1,6 @@
 -- What a stop may have left since an earlier moment, once a replacement is noted.
 use Rattle.std.proofs.Common.{◌≡◌, ◌≤◌, ◌⊎◌, inl, inr, ℕ, zero, suc, List, ◌∷◌, length, sym, subst, arith}
-use Rattle.store_files.specs.{Folders.{Folder, Swapped}, Moments.Elapses, NameLaws.named_is, Names.{named, numbers_of}, Note.{Event}}
+use Rattle.store_files.specs.{Folders.{Folder, Swapped}, Moments.Elapses, NameLaws.named_is, Names.{named, numbers_of}, Note.Event}
 use Rattle.store_files.specs.{Replay.{Behind, Leaves, LeftSince, leaves_now}, declared.name.FileName.FileName}
 
 module _ (start : Folder) (old : List Event) (name : FileName) (bytes : List ℕ) where

@@ -1,8 +1,7 @@
 -- The answers of calls as numbers.
 use Rattle.std.specs.Prelude.{ℕ, Result, Ok, Err}
-use Rattle.store_files.specs.declared.fault.StoreFault.{StoreFault}
+use Rattle.store_files.specs.{declared.fault.StoreFault.StoreFault, declared.fault.ReplaceFault.ReplaceFault}
 use Rattle.store_files.specs.declared.fault.StoreFault.TheVariants as faults
-use Rattle.store_files.specs.declared.fault.ReplaceFault.{ReplaceFault}
 use Rattle.store_files.specs.declared.fault.ReplaceFault.TheVariants as replace
 use Rattle.store_folder.specs.{declared.fault.Trouble.Trouble, declared.fault.Trouble.TheVariants.{Device, NoMemory}}
 

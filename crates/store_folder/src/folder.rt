@@ -1,6 +1,7 @@
 //! Files in a folder: each is on the disk before its call answers.
 ghost use Rattle.std.specs.Prelude.{◌≡◌, [], ◌∷◌, List, Result, Ok, Err, IfOk};
-ghost use Rattle.store_files.specs.{Folders.{Folder, IsSame}, Names.{kind_of, number_of, shard_of}, Note.{Known, event_of, folder_of}, Replay.{Leaves, failed_in, held}};
+ghost use Rattle.store_files.specs.{Folders.{Folder, IsSame}, Names.{kind_of, number_of, shard_of}, Note.{Known, event_of, folder_of}};
+ghost use Rattle.store_files.specs.Replay.{Leaves, failed_in, held};
 ghost use Rattle.store_folder.specs.Answers.{fault_of, trouble_number, done_number, done_result, replaced_number};
 
 use crate::fault::{FolderFault, Trouble};
@@ -153,8 +154,7 @@ fn store_fault(trouble: Trouble) -> StoreFault
 
 impl<R: Files + AllocGlobal + LockFolder + Drop> Store for FolderStore<R> {
     ghost use Rattle.std.specs.Prelude.{length};
-    ghost use Rattle.store_files.specs.Note.{folder_of};
-    ghost use Rattle.store_files.specs.Replay.{held, Leaves, LeftSince, IsHonest, failed_in, doubts_in, leaves_now, left_now, failed_is};
+    ghost use Rattle.store_files.specs.{Note.folder_of, Replay.{held, Leaves, LeftSince, IsHonest, failed_in, doubts_in, leaves_now, left_now, failed_is}};
 
     ghost is_honest = { λ s. IsHonest (folder_of s.log.start) s.log.events };
 

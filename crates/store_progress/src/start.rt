@@ -1,7 +1,7 @@
 //! How far a start is, and when it is said.
 ghost use Rattle.std.specs.Prelude.{◌≤◌, length};
 
-use fsfs_lines::parse_decimal;
+use fsfs_text::parse_decimal;
 use std::io::Eprint;
 use std::time::{Clock, Instant};
 

@@ -7,10 +7,10 @@ use Rattle.repo_api.specs.States.{RepoState}
 use Rattle.machine.specs.{Answers.{Answer, content_after, halted_after, pending_after}, Hearing.{Input, Yields}, Hearing.Input.{Broken, Whole}}
 use Rattle.machine.specs.{Machine.InputStep, Settings.Settings, Stages.{is_open, SessionState, Stage}, declared.env.Env.Env}
 use Rattle.machine.specs.declared.phase.Phase.TheVariants.{Greeted, LoggingIn, Challenged, Serving, Editing, Skipping, Reporting, Driven, Ended}
-use Rattle.hub_runs.specs.{Laws.IsUnbroken, Runs.{answered, Event, Feeds, HubRun, HubStep, InputHappens, InputsAre, with_rest}}
-use Rattle.hub_runs.specs.Runs.Event.{Connects, Drops, HandsIn, Hears, Leaves}
-use Rattle.hub_runs.specs.SessionLaws.{kept-updated, session_of-updated, session_of-without, updated_updated, yields_more}
-use Rattle.hub_runs.specs.State.{HubState, kept, session_of, updated, without}
+use Rattle.hub.specs.{Laws.IsUnbroken, Runs.{answered, Event, Feeds, HubRun, HubStep, InputHappens, InputsAre, with_rest}}
+use Rattle.hub.specs.Runs.Event.{Connects, Drops, HandsIn, Hears, Leaves}
+use Rattle.hub.specs.SessionLaws.{kept-updated, session_of-updated, session_of-without, updated_updated, yields_more}
+use Rattle.hub.specs.State.{HubState, kept, session_of, updated, without}
 use Rattle.hub.proofs.Composing.{runs_on}
 use Rattle.conversations.specs.Pieces.{Piece, bytes_of, inputs_of, ComesInPieces}
 use Rattle.conversations.proofs.Growing.{fed_piece, both_cuts}

@@ -3,7 +3,7 @@ use Rattle.std.proofs.{Common.{◌≡◌, ℕ, ◌<◌, ◌≤◌, true, List, [
 use Rattle.std.specs.{Prelude.{Option, Result, Ok, Err, IsErrAnd}, Io.KnownBytes.{Consumes, Appends}}
 use Rattle.machine.specs.declared.env.Env.{Env}
 use Rattle.hub.specs.{Calls.{ConnectsAs, FedTo, FeedsAs}, declared.hub.HubFault.HubFault, declared.hub.HubFault.TheVariants.{NoSession, NoMemory, Halted, Full}}
-use Rattle.hub_runs.specs.State.{HubState}
+use Rattle.hub.specs.State.{HubState}
 use Rattle.streams.specs.{declared.fault.ServeFault.ServeFault, declared.fault.ServeFault.TheVariants.{Read, Write, Hub}}
 use Rattle.streams.specs.Stream.{Scene, FeedsInPart, HearsPieces, is_hearing, Answered, PieceSent, PiecesSent, StreamServed}
 use Rattle.conversations.specs.Pieces.{Piece, bytes_of, GivesAll}

@@ -3,8 +3,8 @@ use Rattle.std.specs.Prelude.{◌≡◌, ◌⊎◌, ℕ, Bool, true, ◌&&◌, n
 use Rattle.std.specs.Io.KnownBytes.{Consumes, Appends, IsAtEnd}
 use Rattle.wire_replies.specs.{declared.reply.Reply.Reply, Replies.print, Sinks.WritesPart}
 use Rattle.machine.specs.{Hearing.Yields, Stages.SessionState, declared.env.Env.Env}
-use Rattle.hub.specs.{declared.hub.HubFault.HubFault, Calls.{ConnectsAs, ConnectFails, FeedBreaks, FeedsTo}}
-use Rattle.hub_runs.specs.{Runs.{Event, HubRun, IfOpen, InputsAre, with_rest}, Runs.Event.{HandsIn, Hears}, State.{HubState, session_of}}
+use Rattle.hub.specs.{declared.hub.HubFault.HubFault, Calls.{ConnectsAs, ConnectFails, FeedBreaks, FeedsTo}, Runs.{Event, HubRun, IfOpen, InputsAre, with_rest}}
+use Rattle.hub.specs.{Runs.Event.{HandsIn, Hears}, State.{HubState, session_of}}
 use Rattle.conversations.specs.Pieces.{Piece, bytes_of, inputs_of, GivesAll, ComesInPieces}
 use Rattle.streams.specs.{declared.fault.ServeFault.ServeFault, declared.fault.ServeFault.TheVariants.{Read, Write, Hub}}
 

@@ -2,7 +2,7 @@
 ghost use Rattle.std.specs.{Prelude.{ℕ, List}, List.flat_map};
 ghost use Rattle.wire_replies.specs.declared.reply.Reply.{Reply};
 ghost use Rattle.machine.specs.declared.env.Env.{Env};
-ghost use Rattle.hub_runs.specs.{Runs.HubRun, State.HubState};
+ghost use Rattle.hub.specs.{Runs.HubRun, State.HubState};
 ghost use Rattle.conversations.specs.Pieces.{Piece};
 ghost use Rattle.streams.specs.Stream.{PiecesRun, events_of};
 

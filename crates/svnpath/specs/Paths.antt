@@ -1,6 +1,6 @@
 -- Paths, as lists of components, which are lists of bytes.
-use Rattle.std.specs.{Prelude.{◌≡◌, ℕ, Bool, ◌==◌, List, [], Option, Some, None}, Arc.arc_value, declared.sync.Arc.Arc, declared.vec.Vec.Vec, Cmp.IsTotalOrder, Coded.{Coded, coded_ℕ, coded_list}}
-use Rattle.std.specs.FinMap.{IsAntisymmetric, nat_cmp-IsAntisymmetric, slice_cmp-IsAntisymmetric}
+use Rattle.std.specs.{Prelude.{◌≡◌, ℕ, Bool, ◌==◌, List, [], Option, Some, None}, Arc.arc_value, declared.sync.Arc.Arc, declared.vec.Vec.Vec, Cmp.IsTotalOrder}
+use Rattle.std.specs.{Coded.{Coded, coded_ℕ, coded_list}, FinMap.{IsAntisymmetric, nat_cmp-IsAntisymmetric, slice_cmp-IsAntisymmetric}}
 use Rattle.std.specs.{Cmp.Lexicographic.{slice_cmp, pointwise, lists_total, lists_ties, nat_list_cmp_total, texts_ties}, List.starts_with}
 use Rattle.std.specs.{Ordering.{nat_cmp, is_eq}, declared.cmp.Ordering.Ordering}
 

@@ -1,6 +1,6 @@
 //! Why the program ends before its time.
 
-use fsfs_lines::FileFault;
+use fsfs_text::FileFault;
 use health::AskFault;
 use hub::HubFault;
 use serving::{Reason, ServingFault};

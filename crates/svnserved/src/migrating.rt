@@ -4,8 +4,8 @@ use crate::beside::make_beside;
 use crate::fault::ProgramFault;
 use crate::repositories::{DiskStore, files_folder, open_files};
 use command_line::NewFormat;
-use filed_opening::{copy_repository, judged};
-use fsfs_lines::FileFault;
+use filed_repository::{copy_repository, judged};
+use fsfs_text::FileFault;
 use repository_creation::Progress;
 use std::fs;
 use std::io::IsTerminal;
@@ -62,7 +62,7 @@ fn copy_into(
 ) -> Result<(), ProgramFault> {
     let folder = files_folder(rt.alloc(), new)?;
     let mut store = FolderStore::make(*rt, folder).map_err(ProgramFault::NewFolder)?;
-    filed_opening::check_free(rt.alloc(), &mut store).map_err(ProgramFault::NewStore)?;
+    filed_repository::check_free(rt.alloc(), &mut store).map_err(ProgramFault::NewStore)?;
     make_beside(rt, new, NewFormat::Three).map_err(ProgramFault::NewFolder)?;
     let mut telling = Telling {
         rt,

@@ -1,16 +1,15 @@
 //! The repositories that are made and served.
 ghost use Rattle.std.specs.Prelude.{◌≡◌, [], List, IfOk};
 ghost use Rattle.store_files.specs.{Folders.{Folder, IsSame}, Note.{Known, folder_of}, Replay.{Leaves, held}};
-ghost use Rattle.store_access.specs.Stored.{IsOpened};
-ghost use Rattle.filed_world.specs.Files.{filed_content};
-ghost use Rattle.folder_hub.specs.Opening.{IsFoundIn};
+ghost use Rattle.stored_repository.specs.Stored.{IsOpened};
+ghost use Rattle.filed_repository.specs.Files.{filed_content};
+ghost use Rattle.hub.specs.Opening.{IsFoundIn};
 
 use crate::beside::make_beside;
 use crate::fault::ProgramFault;
 use command_line::NewFormat;
-use filed_opening::{FolderRepository, check_free, create, open};
-use folder_hub::{FolderHub, hub_over};
-use hub::Options;
+use filed_repository::{FolderRepository, check_free, create, open};
+use hub::{FolderHub, Options, hub_over};
 use rand::rngs::StdRng;
 use repostore::Unopened;
 use serving::moment_now;

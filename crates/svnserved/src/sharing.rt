@@ -3,8 +3,7 @@ ghost use Rattle.std.specs.Prelude.{◌≡◌};
 
 use crate::fault::ProgramFault;
 use crate::repositories::DiskStore;
-use filed_opening::{FolderRepository, opened_trees_are_sound};
-use filed_world::FiledWorld;
+use filed_repository::{FiledWorld, FolderRepository, opened_trees_are_sound};
 use published::{Naming, NewHistory};
 use serving::{Readings, Server, desks_of, serve};
 use std::fs::Files;

@@ -2,7 +2,7 @@
 
 use crate::fault::{ProgramFault, STORE_FAILED};
 use command_line::{Location, Order};
-use fsfs_lines::FileFault;
+use fsfs_text::FileFault;
 use health::AskFault;
 use serving::{INVALID_LINE, Reason, ServingFault, UNREADABLE};
 use std::fmt;

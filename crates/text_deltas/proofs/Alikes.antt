@@ -1,6 +1,6 @@
 -- How many bytes two texts begin with, counted place by place.
-use Rattle.std.proofs.Common.{◌≡◌, ◌≢◌, ℕ, suc, ◌+◌, ◌-◌, ◌≤◌, ◌<◌, ◌==◌, cond, Bool, true, false, List, [], ◌∷◌, ◌++◌, length, take, drop, reverse, get_or, refl, sym, ap, ◌∙◌, add-one, arith, drop-cons, length-drop, eqb-true}
-use Rattle.std.proofs.{Math.ListN.drop_of_length-le, Math.Seq.drop-append_seam}
+use Rattle.std.proofs.Common.{◌≡◌, ◌≢◌, ℕ, suc, ◌+◌, ◌-◌, ◌≤◌, ◌<◌, ◌==◌, cond, Bool, true, false, List, [], ◌∷◌, ◌++◌, length, take, drop, reverse, get_or}
+use Rattle.std.proofs.{Common.{refl, sym, ap, ◌∙◌, add-one, arith, drop-cons, length-drop, eqb-true}, Math.ListN.drop_of_length-le, Math.Seq.drop-append_seam}
 use Rattle.std.proofs.lemmas.List.{get_or-reverse, length-reverse, reverse-append, reverse-reverse, take-append-drop}
 use borrow.Author.Tests.{eq-eqb, ne_eqb}
 use Rattle.text_deltas.specs.Alike.{alike}

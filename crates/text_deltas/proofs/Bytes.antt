@@ -1,8 +1,7 @@
 -- The bytes of integers.
-use Rattle.std.proofs.Common.{◌≡◌, ℕ, ◌+◌, ◌/◌, ◌%◌, ◌<◌, List, [], ◌∷◌, ◌++◌, map, sym, ap, ◌∙◌, append_assoc, lit≤}
-use Rattle.std.specs.Int.Digits.{digits_of}
-use Rattle.std.proofs.lemmas.Int.Digits.{digits_of_step}
+use Rattle.std.proofs.{Common.{◌≡◌, ℕ, ◌+◌, ◌/◌, ◌%◌, ◌<◌, List, [], ◌∷◌, ◌++◌, map, sym, ap, ◌∙◌, append_assoc, lit≤}, lemmas.Int.Digits.digits_of_step}
 use Rattle.std.proofs.lemmas.List.{map-append}
+use Rattle.std.specs.Int.Digits.{digits_of}
 
 -- one group more
 pub groups_more : (old mid new : List ℕ) (n : ℕ) → 0 < n → mid ≡ old ++ map (λ d. 128 + d) (digits_of 128 (n / 128))

@@ -1,7 +1,7 @@
 -- The windows of a delta are a document that gives the text, and their views go on as a stream does.
-use Rattle.std.proofs.Common.{◌≡◌, ℕ, zero, suc, ◌+◌, ◌-◌, ◌*◌, ◌≤◌, ◌<◌, min, List, ◌++◌, map, length, take, drop, refl, sym, ap, subst, ◌∙◌, arith, length-take, length-drop, lit<}
-use Rattle.std.proofs.lemmas.List.{take-append-drop, drop-drop, take_min}
-use Rattle.std.proofs.{Math.ListN.drop_of_length-le, lemmas.Grind.div_ceil_times}
+use Rattle.std.proofs.Common.{◌≡◌, ℕ, zero, suc, ◌+◌, ◌-◌, ◌*◌, ◌≤◌, ◌<◌, min, List, ◌++◌, map, length, take, drop, refl, sym, ap, subst, ◌∙◌, arith}
+use Rattle.std.proofs.{Common.{length-take, length-drop, lit<}, lemmas.List.{take-append-drop, drop-drop, take_min}, Math.ListN.drop_of_length-le}
+use Rattle.std.proofs.lemmas.Grind.{div_ceil_times}
 use Rattle.std.specs.{Int.div_ceil, List.{concat, flat_map, range_with_len}}
 use Rattle.svndiff0.specs.{Window.limit, Format.{AreWindows, IsWindow, IsDocument}}
 use Rattle.text_deltas.specs.{Alike.shared_by, Deltas.{parts_of, nth_window, windows, delta_chunks}, Streams.AreStreamed}

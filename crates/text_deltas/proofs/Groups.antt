@@ -1,7 +1,8 @@
 -- Groups of bytes that are compared at once.
-use Rattle.std.proofs.Common.{◌≡◌, ℕ, zero, suc, ◌+◌, ◌-◌, ◌*◌, ◌%◌, ◌^◌, ◌≤◌, ◌↔◌, IsTrue, cond, Bool, true, false, List, [], ◌∷◌, ◌++◌, length, map, take, drop, reverse, get_or, refl, sym, ap, ◌∙◌, arith, eqb, eqb-true, w8, length-drop}
-use Rattle.std.proofs.Math.Seq.{take-add, take-append_seam}
-use Rattle.std.proofs.lemmas.{List.{drop-drop, length-reverse, length-take-le, reverse-append, reverse-reverse}, Simd.{length-zip2, mask_l-mod, tops_compared}}
+use Rattle.std.proofs.Common.{◌≡◌, ℕ, zero, suc, ◌+◌, ◌-◌, ◌*◌, ◌%◌, ◌^◌, ◌≤◌, ◌↔◌, IsTrue, cond, Bool, true, false, List, [], ◌∷◌, ◌++◌, length, map, take}
+use Rattle.std.proofs.{Common.{drop, reverse, get_or, refl, sym, ap, ◌∙◌, arith, eqb, eqb-true, w8, length-drop}, Math.Seq.{take-add, take-append_seam}}
+use Rattle.std.proofs.lemmas.List.{drop-drop, length-reverse, length-take-le, reverse-append, reverse-reverse}
+use Rattle.std.proofs.lemmas.Simd.{length-zip2, mask_l-mod, tops_compared}
 use Rattle.std.specs.Simd.Lanes.{mask_l, top, zip2}
 use borrow.Author.Tests.{eq-eqb}
 use native.Mathlib.Nat.{two-pow-succ}

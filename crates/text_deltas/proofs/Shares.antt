@@ -1,8 +1,9 @@
 -- What is copied is within both texts, and is the same in both.
-use Rattle.std.proofs.Common.{◌≡◌, ℕ, ◌+◌, ◌-◌, ◌*◌, ◌≤◌, ◌<◌, ◌^◌, ◌&&◌, cond, Bool, true, false, true≢false, nat_lt, nat_le, List, length, take, drop, reverse, min, refl, sym, ap, ◌∙◌, arith, length-drop}
-use Rattle.std.proofs.lemmas.List.{length-reverse, take_min, take_rest, drop-drop}
+use Rattle.std.proofs.Common.{◌≡◌, ℕ, ◌+◌, ◌-◌, ◌*◌, ◌≤◌, ◌<◌, ◌^◌, ◌&&◌, cond, Bool, true, false, true≢false, nat_lt, nat_le, List, length, take, drop}
+use Rattle.std.proofs.{Common.{reverse, min, refl, sym, ap, ◌∙◌, arith, length-drop}, lemmas.List.{length-reverse, take_min, take_rest, drop-drop}}
 use Rattle.std.proofs.lemmas.Bool.{leb-true}
-use Rattle.text_deltas.specs.{Alike.{alike, is_near, alike_behind, if_worth, shared_by}, Bounds.IsBounded, Deltas.{window, nth_window}, declared.shared.Shared.Shared}
+use Rattle.text_deltas.specs.{Alike.{alike, is_near, alike_behind, if_worth, shared_by}, Bounds.IsBounded, Deltas.{window, nth_window}}
+use Rattle.text_deltas.specs.declared.shared.Shared.{Shared}
 use Rattle.text_deltas.proofs.Alikes.{alike_fits, same_front, same_behind}
 
 -- with the bytes at the front, both texts have so many

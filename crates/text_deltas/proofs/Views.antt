@@ -1,7 +1,6 @@
 -- A window over the text before gives its part of the text, and its view goes on as a stream does.
-use Rattle.std.proofs.Common.{◌≡◌, ℕ, zero, suc, ◌+◌, ◌-◌, ◌^◌, ◌≤◌, ◌<◌, min, List, ◌++◌, length, take, drop, refl, sym, ap, subst, ◌∙◌, arith, length-take, length-drop}
-use Rattle.std.proofs.lemmas.List.{take-take, drop-take, drop-drop, take-append-drop}
-use Rattle.std.proofs.{Math.Seq.take-length}
+use Rattle.std.proofs.Common.{◌≡◌, ℕ, zero, suc, ◌+◌, ◌-◌, ◌^◌, ◌≤◌, ◌<◌, min, List, ◌++◌, length, take, drop, refl, sym, ap, subst, ◌∙◌, arith, length-take}
+use Rattle.std.proofs.{Common.length-drop, lemmas.List.{take-take, drop-take, drop-drop, take-append-drop}, Math.Seq.take-length}
 use Rattle.svndiff0.specs.{Window.limit, Format.{AreIntegers, IsInteger, AreInstructions, IsWindow}}
 use Rattle.text_deltas.specs.{Deltas.{integer, parts_of, instructions, head, window}, declared.shared.Shared.Shared, declared.windows.Parts.Parts}
 use Rattle.text_deltas.proofs.{Shares.IsSharing, Written.{is_integer, AreInView, instructions_short, gives_parts}}

@@ -1,9 +1,8 @@
 -- Where nothing is copied, a window is that of a whole text.
-use Rattle.std.proofs.Common.{◌≡◌, ℕ, ◌+◌, ◌-◌, ◌*◌, ◌/◌, ◌%◌, ◌^◌, ◌≤◌, ◌<◌, min, cond, Bool, true, false, nat_lt, List, [], ◌∷◌, ◌++◌, map, length, take, drop, refl, sym, ap, ◌∙◌, arith, append_assoc, append-nil, length-take, length-drop, lit≤, lit<}
-use Rattle.std.proofs.lemmas.Bool.Decides.{nat_tests}
-use Rattle.std.proofs.{Math.Seq.take-length, lemmas.Grind.div_ceil_times}
+use Rattle.std.proofs.Common.{◌≡◌, ℕ, ◌+◌, ◌-◌, ◌*◌, ◌/◌, ◌%◌, ◌^◌, ◌≤◌, ◌<◌, min, cond, Bool, true, false, nat_lt, List, [], ◌∷◌, ◌++◌, map, length, take}
+use Rattle.std.proofs.{Common.{drop, refl, sym, ap, ◌∙◌, arith, append_assoc, append-nil, length-take, length-drop, lit≤, lit<}, lemmas.Bool.Decides.nat_tests}
+use Rattle.std.proofs.{Math.Seq.take-length, lemmas.Grind.div_ceil_times, lemmas.Int.Digits.digits_of_step}
 use Rattle.std.specs.{Int.div_ceil, Int.Digits.digits_of}
-use Rattle.std.proofs.lemmas.Int.Digits.{digits_of_step}
 use borrow.Author.Tests.{ltb-true, lt-ltb}
 use Rattle.svndiff0.specs.Full.{integer_of, new_data_of, full_window}
 use Rattle.text_deltas.specs.{Alike.{alike, alike_behind, shared_by}, Deltas.{parts_of, integer, sized, copy, new_data, instructions, head, window, nth_window}}

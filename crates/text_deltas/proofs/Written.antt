@@ -1,13 +1,11 @@
 -- What is written is what the format says.
-use Rattle.std.proofs.Common.{◌≡◌, inl, inr, ℕ, zero, suc, ◌+◌, ◌-◌, ◌*◌, ◌/◌, ◌%◌, ◌^◌, ◌≤◌, ◌<◌, cond, Bool, true, false, nat_lt, List, [], ◌∷◌, ◌++◌, map, length, take, drop, refl, sym, ap, ◌∙◌, arith, append-nil, length-append, length-take, length-drop, subst, lit≤, lit<}
+use Rattle.std.proofs.Common.{◌≡◌, inl, inr, ℕ, zero, suc, ◌+◌, ◌-◌, ◌*◌, ◌/◌, ◌%◌, ◌^◌, ◌≤◌, ◌<◌, cond, Bool, true, false, nat_lt, List, [], ◌∷◌, ◌++◌, map}
+use Rattle.std.proofs.Common.{length, take, drop, refl, sym, ap, ◌∙◌, arith, append-nil, length-append, length-take, length-drop, subst, lit≤, lit<}
+use Rattle.std.proofs.{lemmas.Int.Digits.{number_digits_of, length-digits_of-le}, lemmas.List.length-map, Math.Seq.take-length, Math.ListN.drop_of_length-le}
 use Rattle.std.specs.Int.Digits.{digits_of, number_from_digits_after}
-use Rattle.std.proofs.lemmas.Int.Digits.{number_digits_of, length-digits_of-le}
-use Rattle.std.proofs.lemmas.List.{length-map}
-use Rattle.std.proofs.{Math.Seq.take-length, Math.ListN.drop_of_length-le}
 use borrow.Author.Tests.{ltb-true, ne_eqb}
 use Rattle.svndiff0.specs.{declared.instruction.Instruction.Instruction, declared.instruction.Instruction.TheVariants.{SourceCopy, NewData}}
-use Rattle.svndiff0.specs.Instruction.{total, new_total, target_of}
-use Rattle.svndiff0.specs.Format.{AreGroups, IsInteger, IsLength, AreInstructions}
+use Rattle.svndiff0.specs.{Instruction.{total, new_total, target_of}, Format.{AreGroups, IsInteger, IsLength, AreInstructions}}
 use Rattle.text_deltas.specs.{Deltas.{integer, sized, copy, new_data, instructions}, declared.windows.Parts.Parts}
 
 one_group : (m b n : ℕ) (rest : List ℕ) → 0 < length rest → 128 ≤ b → AreGroups (128 * m + (b - 128)) rest n → AreGroups m (b ∷ rest) n

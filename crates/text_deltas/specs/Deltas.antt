@@ -1,7 +1,7 @@
 -- The delta that leads from one text to another: windows that copy what both texts begin with and
 -- what both end with, and bring the bytes between.
-use Rattle.std.specs.Prelude.{ℕ, ◌+◌, ◌-◌, ◌*◌, ◌/◌, ◌%◌, ◌==◌, List, [], ◌∷◌, ◌++◌, length, take, drop, map, min, nat_lt, if◌then◌else◌}
-use Rattle.std.specs.{Int.div_ceil, Int.Digits.digits_of, List.range_with_len}
+use Rattle.std.specs.{Prelude.{ℕ, ◌+◌, ◌-◌, ◌*◌, ◌/◌, ◌%◌, ◌==◌, List, [], ◌∷◌, ◌++◌, length, take, drop, map, min, nat_lt, if◌then◌else◌}, Int.div_ceil}
+use Rattle.std.specs.{Int.Digits.digits_of, List.range_with_len}
 use Rattle.svndiff0.specs.Document.{header}
 use Rattle.text_deltas.specs.{Alike.shared_by, declared.shared.Shared.Shared, declared.windows.Parts.Parts}
 

@@ -4,9 +4,8 @@ ghost use Rattle.items.specs.View.{value_of, values_of};
 ghost use Rattle.wire_forms.specs.{Answering.Reads, Forms.{number_in, numbers, string_in, strings}};
 
 use crate::fault::CommandFault;
-use byte_string::ByteString;
+use byte_string::{ByteString, Sequence};
 use items::Item;
-use sequence::Sequence;
 use std::alloc::Global;
 
 /// Strings, as the paths of a log.

@@ -5,9 +5,8 @@ ghost use Rattle.wire_forms.specs.{Answering.Reads, Forms.{pair, pairs}};
 
 use crate::fault::CommandFault;
 use crate::form::{read_items, read_string};
-use byte_string::ByteString;
+use byte_string::{ByteString, Sequence};
 use items::Item;
-use sequence::Sequence;
 use std::alloc::Global;
 
 /// Pairs of strings: paths with tokens, or names with values.

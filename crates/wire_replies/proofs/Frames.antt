@@ -3,7 +3,8 @@ use Rattle.std.proofs.Common.{◌≡◌, ◌∙◌, ℕ, List, [], ◌∷◌, �
 use Rattle.svnpath.specs.{Paths.PathValue, Texts.path_text}
 use Rattle.repo_api.specs.{Properties.PropertyList, declared.lock.Lock.Lock}
 use Rattle.items.specs.{Print.{printed, row_printed}, Values.{both, ItemValues, list, more, number, only, string}}
-use Rattle.wire_replies.specs.{Parts.{directory_end, directory_head, file_head, file_revision_place, log_end, log_head}, Replies.{change_trees, entry_trees, lock_trees, optional_string_trees, print, property_change_trees, property_trees, success}}
+use Rattle.wire_replies.specs.Parts.{directory_end, directory_head, file_head, file_revision_place, log_end, log_head}
+use Rattle.wire_replies.specs.Replies.{change_trees, entry_trees, lock_trees, optional_string_trees, print, property_change_trees, property_trees, success}
 use Rattle.wire_replies.specs.declared.file_revisions.FileRevision.{FileRevision as FileRevisionValue}
 use Rattle.wire_replies.specs.{declared.entries.DirectoryInfo.DirectoryInfo as DirectoryInfoValue, declared.entries.FileInfo.FileInfo as FileInfoValue}
 use Rattle.wire_replies.specs.{declared.histories.LogEntry.LogEntry as LogEntryValue, declared.histories.LogFacts.LogFacts}

@@ -1,6 +1,5 @@
 -- What is written under the premise that texts were read as they are known.
-use Rattle.std.proofs.Common.{◌≡◌, ℕ, List, [], ◌++◌, sym, ap, ◌∙◌, length, take, drop}
-use Rattle.std.proofs.{Math.Seq.take-append_seam, lemmas.List.take-append-drop}
+use Rattle.std.proofs.{Common.{◌≡◌, ℕ, List, [], ◌++◌, sym, ap, ◌∙◌, length, take, drop}, Math.Seq.take-append_seam, lemmas.List.take-append-drop}
 use Rattle.std.specs.Prelude.{Result, Ok, Err}
 use Rattle.wire_replies.specs.{Replies.print, Sinks.{WritesPart, Writes, Says}, declared.reply.Reply.Reply}
 

@@ -1,7 +1,7 @@
 -- Bytes, and the items of a row, written one after another.
 use Rattle.std.proofs.Common.{◌≡◌, ◌<◌, ◌+◌, arith, ℕ, suc, List, [], ◌∷◌, ◌++◌, length, drop, get_or, map, refl, sym, ap, subst, ◌∙◌, append-nil, append_assoc}
-use Rattle.std.specs.Prelude.{Result, Ok, Err, IfOk, IsOkAnd}
 use Rattle.std.proofs.{Math.Seq.drop-cons, lemmas.List.map-append}
+use Rattle.std.specs.Prelude.{Result, Ok, Err, IfOk, IsOkAnd}
 use Rattle.items.specs.{Print.{printed, row_printed}, Values.ItemValue, View.{row_of, value_of}, declared.item.Item.Item}
 use Rattle.wire_replies.specs.Sinks.{Writes, WritesPart}
 

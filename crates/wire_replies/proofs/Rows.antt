@@ -4,7 +4,8 @@ use Rattle.std.proofs.Common.{◌≡◌, true, false, List, ℕ, [], ◌∷◌, 
 use Rattle.repo_api.specs.declared.change.Action.TheVariants as actions
 use Rattle.repo_api.specs.declared.entry.NodeKind.TheVariants as kinds
 use Rattle.wire_replies.specs.{Replies.{contents, print}, declared.entries.NodeInfo.NodeInfo, declared.histories.LoggedChange.LoggedChange}
-use Rattle.wire_replies.specs.declared.reply.Reply.TheVariants.{Success, FileInfo, DirectoryInfo, Stat, RevisionProperty, LogEntry, Location, FileRevision, ReplayedProperties, FinishReplay, Done, Failures}
+use Rattle.wire_replies.specs.declared.reply.Reply.TheVariants.{Success, FileInfo, DirectoryInfo, Stat, RevisionProperty, LogEntry, Location, FileRevision}
+use Rattle.wire_replies.specs.declared.reply.Reply.TheVariants.{ReplayedProperties, FinishReplay, Done, Failures}
 
 -- ---- what is known of a path
 

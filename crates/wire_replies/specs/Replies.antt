@@ -13,12 +13,11 @@ use Rattle.repo_api.specs.declared.entry.NodeKind.TheVariants as kinds
 use Rattle.wire_replies.specs.{Pieces.pieces, declared.entries.DirectoryInfo.DirectoryInfo as DirectoryInfoValue}
 use Rattle.wire_replies.specs.{declared.entries.FileInfo.FileInfo as FileInfoValue, declared.entries.NodeInfo.NodeInfo}
 use Rattle.wire_replies.specs.{declared.failures.FailureLink.FailureLink, declared.histories.LogEntry.LogEntry as LogEntryValue}
-use Rattle.wire_replies.specs.declared.file_revisions.FileRevision.{FileRevision as FileRevisionValue}
-use Rattle.wire_replies.specs.{declared.histories.LoggedChange.LoggedChange, declared.reply.Offer.Offer}
-use Rattle.wire_replies.specs.{declared.reply.Offer.TheVariants.{Anonymous, AnonymousOrUser, User, External}, declared.reply.Reply.Reply}
-use Rattle.wire_replies.specs.declared.reply.Reply.TheVariants.{Greeting, NoLogin, Login, MechanismNotOffered, Challenge, LoginFailed, Success, ReposInfo}
-use Rattle.wire_replies.specs.declared.reply.Reply.TheVariants.{Revision, Kind, Properties, Lock, Locks, CommitInfo, FileInfo, Piece, DirectoryInfo, Stat}
-use Rattle.wire_replies.specs.declared.reply.Reply.TheVariants.{RevisionProperty, LogEntry, Location, Segment, FileRevision, Chunk}
+use Rattle.wire_replies.specs.{declared.file_revisions.FileRevision.FileRevision as FileRevisionValue, declared.histories.LoggedChange.LoggedChange}
+use Rattle.wire_replies.specs.{declared.reply.Offer.Offer, declared.reply.Offer.TheVariants.{Anonymous, AnonymousOrUser, User, External}}
+use Rattle.wire_replies.specs.{declared.reply.Reply.Reply, declared.reply.Reply.TheVariants.{Greeting, NoLogin, Login, MechanismNotOffered, Challenge}}
+use Rattle.wire_replies.specs.declared.reply.Reply.TheVariants.{LoginFailed, Success, ReposInfo, Revision, Kind, Properties, Lock, Locks, CommitInfo, FileInfo}
+use Rattle.wire_replies.specs.declared.reply.Reply.TheVariants.{Piece, DirectoryInfo, Stat, RevisionProperty, LogEntry, Location, Segment, FileRevision, Chunk}
 use Rattle.wire_replies.specs.declared.reply.Reply.TheVariants.{Edit, ReplayedProperties, FinishReplay, Done, Failure, Failures}
 
 -- the text of a number of 128 bits: `8-4-4-4-12` lower-case hexadecimal digits

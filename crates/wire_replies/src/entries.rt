@@ -12,10 +12,9 @@ use crate::properties::{properties_item, say_property_list};
 use crate::reply::Reply;
 use crate::saying::say_item;
 use crate::sink::ReplySink;
-use byte_string::ByteString;
+use byte_string::{ByteString, Sequence};
 use items::Item;
 use repo_api::{NodeKind, Properties};
-use sequence::Sequence;
 use std::alloc::{AllocError, Global};
 use std::mem::drop;
 

@@ -4,9 +4,8 @@ ghost use Rattle.items.specs.{Values.list, View.value_of};
 ghost use Rattle.wire_replies.specs.Replies.{failure, link_item, link_items};
 
 use crate::build::{list_item, number_item, string_item, with_made, word_item};
-use byte_string::ByteString;
+use byte_string::{ByteString, Sequence};
 use items::Item;
-use sequence::Sequence;
 use std::alloc::{AllocError, Global};
 
 /// A link of a failure: a number of Subversion's, a message, and the file and the line of the program that failed.

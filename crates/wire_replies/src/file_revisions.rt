@@ -1,18 +1,17 @@
 //! The revisions of a file, as items.
 ghost use Rattle.std.specs.Prelude.{◌≡◌, ◌++◌, ◌∷◌, [], IfOk};
 ghost use Rattle.items.specs.{Print.{printed, row_printed}, Values.{both, list, string}, View.value_of};
-ghost use Rattle.wire_replies.specs.Replies.{file_revision, optional_string_trees, property_change_trees, property_trees};
-ghost use Rattle.wire_replies.specs.{Parts.file_revision_place, Sinks.{Says, Writes}};
+ghost use Rattle.wire_replies.specs.{Replies.{file_revision, optional_string_trees, property_change_trees, property_trees}, Parts.file_revision_place};
+ghost use Rattle.wire_replies.specs.Sinks.{Says, Writes};
 
 use crate::build::{boolean_item, list_item, number_item, path_item, string_item, with_made};
 use crate::properties::{properties_item, say_property_list};
 use crate::reply::Reply;
 use crate::saying::say_item;
 use crate::sink::ReplySink;
-use byte_string::ByteString;
+use byte_string::{ByteString, Sequence};
 use items::Item;
 use repo_api::{Properties, PropertyValue};
-use sequence::Sequence;
 use std::alloc::{AllocError, Global};
 use svnpath::Path;
 

@@ -1,9 +1,9 @@
 //! Logs, and where something was, as items.
 ghost use Rattle.std.specs.Prelude.{◌≡◌, ℕ, List, [], IfOk};
 ghost use Rattle.items.specs.{Print.printed, Values.{both, list, more, string, word}, View.value_of, Word.IsWord};
-ghost use Rattle.wire_replies.specs.Replies.{action_word, bare_path_trees, bare_text, boolean_name, change_tree, change_trees, kind_word, location_item, log_entry, logged_change, segment_item};
-ghost use Rattle.wire_replies.specs.{Parts.{log_end, log_head}, Replies.source_trees, Sinks.Writes};
-ghost use Rattle.wire_replies.specs.declared.histories.{LogFacts.LogFacts, LoggedChange.LoggedChange};
+ghost use Rattle.wire_replies.specs.Replies.{action_word, bare_path_trees, bare_text, boolean_name, change_tree, change_trees, kind_word, location_item};
+ghost use Rattle.wire_replies.specs.{Replies.{log_entry, logged_change, segment_item, source_trees}, Parts.{log_end, log_head}, Sinks.Writes};
+ghost use Rattle.wire_replies.specs.{declared.histories.LogFacts.LogFacts, declared.histories.LoggedChange.LoggedChange};
 
 use crate::build::{
     boolean_item, kind_name, list_item, number_item, optional_string_item, path_item, string_item,
@@ -12,10 +12,9 @@ use crate::build::{
 use crate::reply::write_made;
 use crate::saying::say_item;
 use crate::sink::ReplySink;
-use byte_string::ByteString;
+use byte_string::{ByteString, Sequence};
 use items::Item;
 use repo_api::{Action, Change, NodeKind, Source};
-use sequence::Sequence;
 use std::alloc::{AllocError, Global};
 use std::mem::drop;
 use svnpath::Path;

@@ -7,10 +7,9 @@ use crate::build::{list_item, optional_string_item, path_item, string_item, with
 use crate::reply::Reply;
 use crate::saying::say_item;
 use crate::sink::ReplySink;
-use byte_string::ByteString;
+use byte_string::{ByteString, Sequence};
 use items::Item;
 use repo_api::Lock;
-use sequence::Sequence;
 use std::alloc::{AllocError, Global};
 use svnpath::Path;
 

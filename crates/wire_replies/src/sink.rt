@@ -3,8 +3,7 @@ ghost use Rattle.std.specs.Prelude.{◌≡◌, ◌∷◌, ◌++◌, [], List, �
 ghost use Rattle.wire_replies.specs.Sinks.{Says, Writes};
 
 use crate::reply::Reply;
-use file_texts::{HeldTexts, Texts};
-use repo_api::FileText;
+use repo_api::{FileText, HeldTexts, Texts};
 use std::alloc::{AllocError, Global};
 use std::marker::Model;
 

@@ -2,7 +2,8 @@
 use Rattle.std.specs.{Prelude.{ℕ, Bool, true, false, List, Option, Some, None}, Option.option_map_or}
 use Rattle.items.specs.Values.{ItemValues, none, more}
 use Rattle.wire_forms.specs.Forms.{◌>>=◌, string_first, flag_first, revision_first}
-use Rattle.wire_reports.specs.{Depths.{depth_first, depth_at_end}, declared.asking.DiffRequest.DiffRequest, declared.asking.DriveRequest.DriveRequest, declared.depth_word.DepthWord.DepthWord}
+use Rattle.wire_reports.specs.{Depths.{depth_first, depth_at_end}, declared.asking.DiffRequest.DiffRequest, declared.asking.DriveRequest.DriveRequest}
+use Rattle.wire_reports.specs.declared.depth_word.DepthWord.{DepthWord}
 
 -- what the first of these items says, if it is the word `true` or `false`, and this otherwise
 abbrev pub flag_or : Bool → ItemValues → Bool

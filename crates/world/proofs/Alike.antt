@@ -1,10 +1,9 @@
 -- Edits that are alike over two lists of revisions.
 use Rattle.std.proofs.Common.{◌≡◌, ℕ, false, true≢false, refl, ap, subst, sym}
 use Rattle.svnpath.specs.Paths.{PathValue}
-use Rattle.repo_api.specs.{Edits.edited, RightEdits.IsRightEdit, States.trees_in, Trees.Tree}
-use Rattle.repo_api.specs.declared.edit.EditOp.{EditOp}
+use Rattle.repo_api.specs.{Edits.edited, RightEdits.IsRightEdit, States.trees_in, Trees.Tree, declared.edit.EditOp.EditOp}
 use Rattle.repo_api.specs.declared.edit.EditOp.TheVariants.{AddDirectory, AddFile, Copy, Replace, Delete, SetProperty, RemoveProperty, SetText}
-use Rattle.held.specs.{Contents.revisions_of, declared.held.Held.Held}
+use Rattle.shared_revisions.specs.{Contents.revisions_of, declared.held.Held.Held}
 use Rattle.world.specs.Editing.{AreAlikeFor, is_copy}
 
 right_in_any : (op : EditOp) → is_copy op ≡ false → (trees others : ℕ → Tree) (t : Tree)

@@ -9,8 +9,8 @@ use Rattle.history_marks.specs.{Quiet.IsMarkedBy, Sound.{IsSoundRepo, IsSoundTxn
 use Rattle.history_marks.proofs.Staying.{changed_sound}
 use Rattle.noderevs.specs.Held.{trees_of}
 use Rattle.treemerge.specs.Merges.{IsTold}
-use Rattle.held.specs.{Contents.{held_state, revisions_of, state_of}, declared.held.Held.Held}
-use Rattle.held.proofs.Telling.{sound_told}
+use Rattle.shared_revisions.specs.{Contents.{held_state, revisions_of, state_of}, declared.held.Held.Held}
+use Rattle.shared_revisions.proofs.Telling.{sound_told}
 
 -- soundness is of the revisions alone
 pub same_revisions : (c d : RepoState) → d.revisions ≡ c.revisions → IsSoundRepo c → IsSoundRepo d

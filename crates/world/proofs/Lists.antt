@@ -1,6 +1,6 @@
 -- Revisions that go on, and are as many.
-use Rattle.std.proofs.Common.{◌≡◌, ◌<◌, ◌+◌, ℕ, List, [], ◌∷◌, ◌++◌, length, take, drop, refl, sym, ap, subst, arith, length-append, append_assoc, append-nil, ◌∙◌}
-use Rattle.std.proofs.{Math.Seq.take-append_seam, lemmas.List.take-append-drop}
+use Rattle.std.proofs.Common.{◌≡◌, ◌<◌, ◌+◌, ℕ, List, [], ◌∷◌, ◌++◌, length, take, drop, refl, sym, ap, subst, arith, length-append, append_assoc, append-nil}
+use Rattle.std.proofs.{Common.◌∙◌, Math.Seq.take-append_seam, lemmas.List.take-append-drop}
 use Rattle.repo_api.specs.States.{IsBeginning, Revision}
 
 none_more : (more : List Revision) (n : ℕ) → n + length more ≡ n → more ≡ []

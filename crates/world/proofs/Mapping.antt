@@ -4,7 +4,7 @@ use Rattle.svnpath.specs.Paths.{PathValue}
 use Rattle.repo_api.specs.{RightEdits.IsRightEdit, StateLaws.same_tree, States.{tree_of, TreeMap}, Trees.Tree, declared.edit.EditOp.EditOp}
 use Rattle.history_marks.specs.Sound.{IsSoundTxn}
 use Rattle.txntree.specs.Whole.{txn_tree}
-use Rattle.held.specs.Maps.{IsMapOf, Mapped, one_map}
+use Rattle.shared_revisions.specs.Maps.{IsMapOf, Mapped, one_map}
 use Rattle.world.specs.{Open.txn_of, Whole.{the_map, txn_map, txn_state_of}, declared.world_txn.WorldTxn.WorldTxn}
 
 pub the_map_is : (t : Tree) (mapped : ∥ Mapped t ∥₁) (m : TreeMap) → IsMapOf t m

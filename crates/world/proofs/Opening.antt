@@ -10,8 +10,8 @@ use Rattle.history_marks.specs.Sound.{IsSoundRepo, IsSoundTxn}
 use Rattle.history_marks.proofs.Staying.{begun_sound, edited_sound}
 use Rattle.noderevs.specs.Held.{trees_of}
 use Rattle.txntree.specs.{Whole.txn_tree, declared.tree.TxnTree.TxnTree}
-use Rattle.held.specs.{Contents.{held_state, revisions_of, state_of}, Maps.{IsMapOf, Mapped, mapped}, declared.held.Held.Held}
-use Rattle.held.proofs.Seen.{held_seen}
+use Rattle.shared_revisions.specs.{Contents.{held_state, revisions_of, state_of}, Maps.{IsMapOf, Mapped, mapped}, declared.held.Held.Held}
+use Rattle.shared_revisions.proofs.Seen.{held_seen}
 use Rattle.world.specs.{Open.{txn_of, IsOpen}, Whole.{txn_map, txn_state_of}, declared.world_txn.WorldTxn.WorldTxn}
 use Rattle.world.proofs.Mapping.{txn_map_is}
 

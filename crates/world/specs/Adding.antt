@@ -3,8 +3,8 @@ use Rattle.std.specs.Prelude.{◌≡◌, ◌<◌, List, length, MatchOption, Opt
 use Rattle.repo_api.specs.{Histories.Changed, Properties.PropertyList, States.ChangeMap, declared.limits.TheConstants.REVISION_LIMIT}
 use Rattle.history_marks.specs.Sound.{IsSoundRepo}
 use Rattle.noderevs.specs.declared.node_rev.Block.{Block}
-use Rattle.next_blocks.specs.Rules.{IsNextRevision, past_of}
-use Rattle.held.specs.{Contents.{held_state, revisions_of}, Growing.{HasNext, HasSame}, declared.held.Held.Held}
+use Rattle.block_rules.specs.Rules.{IsNextRevision, past_of}
+use Rattle.shared_revisions.specs.{Contents.{held_state, revisions_of}, Growing.{HasNext, HasSame}, declared.held.Held.Held}
 use Rattle.world.specs.declared.world.World.{World}
 
 -- a block and changes keep the rules, and a number is left

@@ -2,7 +2,7 @@
 use Rattle.std.specs.Prelude.{◌≡◌, Result, IfOk}
 use Rattle.repo_api.specs.{Accepted.{Accepted, changed, IsJudged, refusal_of}, Accepted.Accepted.{ChangesProperty, Commits, Locks, Releases, Unlocks}}
 use Rattle.repo_api.specs.{States.LockMap, declared.fault.ChangeFault.ChangeFault}
-use Rattle.held.specs.{Growing.{HasOneMore, HasSame}, declared.held.Held.Held}
+use Rattle.shared_revisions.specs.{Growing.{HasOneMore, HasSame}, declared.held.Held.Held}
 use Rattle.world.specs.{Whole.world_content, declared.world.World.World}
 
 -- after a commit there is one revision more, after a change of a property there are the same, and

@@ -1,11 +1,10 @@
 -- An edit of a transaction.
 use Rattle.std.specs.Prelude.{◌≡◌, Bool, true, false}
 use Rattle.svnpath.specs.Paths.{PathValue}
-use Rattle.repo_api.specs.{Edits.edited, RightEdits.IsRightEdit, States.{IsBeginning, tree_of, trees_in}, Trees.Tree}
-use Rattle.repo_api.specs.declared.edit.EditOp.{EditOp}
+use Rattle.repo_api.specs.{Edits.edited, RightEdits.IsRightEdit, States.{IsBeginning, tree_of, trees_in}, Trees.Tree, declared.edit.EditOp.EditOp}
 use Rattle.repo_api.specs.declared.edit.EditOp.TheVariants.{Copy, Replace}
 use Rattle.history_marks.specs.Sound.{IsSoundRepo}
-use Rattle.held.specs.{Contents.{held_state, revisions_of}, declared.held.Held.Held}
+use Rattle.shared_revisions.specs.{Contents.{held_state, revisions_of}, declared.held.Held.Held}
 use Rattle.world.specs.{Whole.txn_state_of, declared.world_txn.WorldTxn.WorldTxn}
 
 -- what is held is sound, and goes on from what the transaction was last shown

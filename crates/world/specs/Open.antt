@@ -3,7 +3,7 @@ use Rattle.std.specs.Prelude.{◌≡◌, ℕ, length, take}
 use Rattle.repo_api.specs.States.{ChangeMap, TreeMap, TxnState}
 use Rattle.history_marks.specs.Sound.{IsSoundTxn}
 use Rattle.txntree.specs.{Whole.txn_tree, declared.tree.TxnTree.TxnTree}
-use Rattle.held.specs.{Contents.revisions_of, Maps.IsMapOf, declared.held.Held.Held}
+use Rattle.shared_revisions.specs.{Contents.revisions_of, Maps.IsMapOf, declared.held.Held.Held}
 
 -- with this base, tree and changes, and what it was last shown
 abbrev pub txn_of : Held → ℕ → TreeMap → ChangeMap → TxnState

@@ -2,7 +2,7 @@
 use Rattle.std.proofs.Math.Logic.{∥∥₁_elim, ∥∥₁_map}
 use Rattle.repo_api.specs.{States.{RepoState, TreeMap, TxnState}, Trees.Tree}
 use Rattle.txntree.specs.Whole.{txn_tree}
-use Rattle.held.specs.{Contents.state_of, Maps.{Mapped, one_map}}
+use Rattle.shared_revisions.specs.{Contents.state_of, Maps.{Mapped, one_map}}
 use Rattle.world.specs.{Open.txn_of, declared.world.World.World, declared.world_txn.WorldTxn.WorldTxn}
 
 abbrev pub world_content : World → RepoState

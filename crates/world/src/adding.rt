@@ -1,16 +1,16 @@
 //! A further revision that was read.
 ghost use Rattle.std.specs.{Prelude.{◌≡◌, ◌<◌, length, IfOk, Decides}, FinMap.entries};
 ghost use Rattle.history_marks.specs.Sound.{IsSoundRepo};
-ghost use Rattle.held.specs.Contents.{held_state, revisions_of};
-ghost use Rattle.next_blocks.specs.Rules.{IsNextRevision, past_of};
+ghost use Rattle.shared_revisions.specs.Contents.{held_state, revisions_of};
+ghost use Rattle.block_rules.specs.Rules.{IsNextRevision, past_of};
 ghost use Rattle.world.specs.Adding.{ComesIf, HasAdded, HasFirstList, HasSoundNext, MayComeNext};
 
 use crate::world::World;
-use held::Held;
-use next_blocks::NextBlock;
+use block_rules::NextBlock;
 use noderevs::Block;
 use repo_api::{Properties, REVISION_LIMIT};
 use revision_data::ChangeList;
+use shared_revisions::Held;
 use std::alloc::{AllocError, Global};
 use std::mem::drop;
 use std::sync::Arc;

@@ -1,15 +1,15 @@
 //! What is held after a commit, and what refuses it.
 ghost use Rattle.std.specs.Prelude.{◌≡◌, ◌<◌, length, IfOk};
 ghost use Rattle.repo_api.specs.{Accepted.IsJudged, Commits.{committed, IsRefusedAt, revision_properties}, Locking.{check_refusal, refusing_path}};
-ghost use Rattle.held.specs.{Contents.{held_state, revisions_of, state_of}, Growing.{HasOneMore, HasRevision}, Maps.Mapped, Sealed.sealed_tree};
+ghost use Rattle.shared_revisions.specs.{Contents.{held_state, revisions_of, state_of}, Growing.{HasOneMore, HasRevision}, Maps.Mapped, Sealed.sealed_tree};
 ghost use Rattle.world.specs.{Committing.{IsConflictFor, IsNextTree, MergesTxn, refusal_in}, Editing.RestsOn, Whole.txn_state_of};
 
 use crate::world_txn::WorldTxn;
-use held::{CommitFault, Held};
 use pathlocks::Locks;
 use refusals::Refusal;
 use repo_api::{ChangeFault, CommitAsk, REVISION_LIMIT};
 use revision_data::{TxnChanges, revision_properties};
+use shared_revisions::{CommitFault, Held};
 use std::alloc::{AllocError, Global};
 use std::sync::Arc;
 use svnpath::Path;

@@ -1,13 +1,13 @@
 //! Edits of a transaction.
 ghost use Rattle.std.specs.Prelude.{◌≡◌};
-ghost use Rattle.held.specs.{Contents.revisions_of, Transactions.{EditsTree, IsRightOver}};
+ghost use Rattle.shared_revisions.specs.{Contents.revisions_of, Transactions.{EditsTree, IsRightOver}};
 ghost use Rattle.repo_api.specs.States.{EditsTxn, Notes};
 ghost use Rattle.world.specs.{Editing.{AreAlikeFor, IsRightFor, RestsOn, is_copy}, Whole.txn_state_of};
 
 use crate::world_txn::WorldTxn;
-use held::Held;
 use repo_api::EditOp;
 use revision_data::TxnChanges;
+use shared_revisions::Held;
 use std::alloc::{AllocError, Global};
 use std::sync::Arc;
 use txntree::TxnTree;

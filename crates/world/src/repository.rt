@@ -3,7 +3,7 @@ ghost use Rattle.std.specs.Prelude.{◌≡◌, ◌≤◌, List, ℕ, IfOk, OnOk,
 ghost use Rattle.dates.specs.{Dates.IsDateText, declared.TheConstants.LAST_MOMENT};
 ghost use Rattle.repo_api.specs.{Kinds.{created_at, kind_at}, Locking.with_lock, Opening.new_repository};
 ghost use Rattle.repo_api.specs.{RevisionProperties.{property_refusal, with_changed_property}, States.youngest};
-ghost use Rattle.held.specs.{Contents.held_state, Growing.HasSameBut};
+ghost use Rattle.shared_revisions.specs.{Contents.held_state, Growing.HasSameBut};
 ghost use Rattle.world.specs.Whole.{world_content};
 
 use crate::committing::{refused_at, with_commit};
@@ -12,7 +12,6 @@ use crate::world::World;
 use crate::world_txn::WorldTxn;
 use byte_string::ByteString;
 use dates::date_bytes;
-use held::Held;
 use history_marks::{repositories_stay_sound, transactions_stay_sound};
 use pathlocks::{Locks, lock_shared, put_shared, release_shared, unlock_shared};
 use refusals::Refusal;
@@ -21,6 +20,7 @@ use repo_api::{
     Properties, PropertyAsk, Repository, UnlockAsk,
 };
 use revision_data::{TxnChanges, current_refusal, property_refusal};
+use shared_revisions::Held;
 use std::alloc::{AllocError, Global};
 use std::sync::Arc;
 use svnpath::Path;

@@ -1,9 +1,9 @@
 //! What a repository over node revisions has.
 ghost use Rattle.history_marks.specs.Sound.{IsSoundRepo};
-ghost use Rattle.held.specs.Contents.{held_state};
+ghost use Rattle.shared_revisions.specs.Contents.{held_state};
 
-use held::Held;
 use pathlocks::Locks;
+use shared_revisions::Held;
 use std::alloc::Global;
 use std::sync::Arc;
 

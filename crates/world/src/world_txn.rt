@@ -2,11 +2,11 @@
 ghost use Rattle.std.specs.{Prelude.{◌<◌, length}, Coded.{codes, Coded-set}, FinMap.code as map_code};
 ghost use Rattle.noderevs.specs.Held.{node_at, root_at};
 ghost use Rattle.txntree.specs.Whole.{IsSound};
-ghost use Rattle.held.specs.Contents.{revisions_of};
+ghost use Rattle.shared_revisions.specs.Contents.{revisions_of};
 ghost use Rattle.world.specs.Open.{Begins, IsOpen};
 
-use held::Held;
 use revision_data::TxnChanges;
+use shared_revisions::Held;
 use std::sync::Arc;
 use txntree::TxnTree;
 

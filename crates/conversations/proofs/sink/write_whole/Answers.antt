@@ -1,6 +1,5 @@
 use Rattle.std.proofs.{Common.{ap, ◌∙◌, ℕ, List, Bor}, lemmas.List.take_rest}
-use Rattle.conversations.proofs.Gathered.{no_more, so_many_more, unsent}
-use Rattle.conversations.proofs.sink.write_whole.Goals.{in-Ok, in-Err}
+use Rattle.conversations.proofs.{Gathered.{no_more, so_many_more, unsent}, sink.write_whole.Goals.{in-Ok, in-Err}}
 use Rattle.conversations.proofs.sink.write_whole.Goals as goal
 
 pub loop-init : goal.loop-init

@@ -1,4 +1,4 @@
-use Rattle.drive_reports.specs.Targets.{old_tree, new_tree, stale_in}
+use Rattle.reporter.specs.Targets.{old_tree, new_tree, stale_in}
 use Rattle.drive_news.proofs.Leading.{news_lead_over}
 use Rattle.drive_news.proofs.laws.news_lead.Goals as goal
 

@@ -1,4 +1,4 @@
-use Rattle.drive_reports.proofs.Deciding.{all_trees_hold}
+use Rattle.reporter.proofs.Deciding.{all_trees_hold}
 use Rattle.drive_sides.specs.Plans.{whole}
 use Rattle.drive_sending.specs.Commands.{drive_of}
 use Rattle.drive_sending.proofs.Finished.{drive_may_be_sent, drive_said}

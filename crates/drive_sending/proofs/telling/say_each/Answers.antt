@@ -1,5 +1,5 @@
 use Rattle.std.proofs.{Common.{◌∷◌, [], map, ◌+◌, drop, ap}, lemmas.Result.err_from_is_err_and}
-use Rattle.reporter.specs.Visits.{kind_if}
+use Rattle.drive_visits.specs.Visits.{kind_if}
 use Rattle.drive_sending.specs.Commands.{property_command}
 use Rattle.drive_sending.proofs.telling.say_each.Goals as goal
 use Rattle.drive_sending.proofs.Written.{going_on, going_failed, next_left}

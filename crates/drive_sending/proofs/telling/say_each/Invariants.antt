@@ -1,6 +1,6 @@
 -- The changes so far are written.
 use Rattle.std.proofs.Common.{drop, map}
-use Rattle.reporter.specs.Visits.{kind_if}
+use Rattle.drive_visits.specs.Visits.{kind_if}
 use Rattle.drive_sending.specs.Commands.{property_command}
 use Rattle.drive_sending.proofs.Written.{Going}
 use Rattle.drive_sending.proofs.telling.say_each.Given as goal

@@ -1,7 +1,7 @@
 use Rattle.std.specs.Prelude.{option_copied}
 use Rattle.wire_deltas.specs.Texts.{text_or_empty}
 use Rattle.drive_rules.specs.Steps.EntryKind.{DirectoryKind}
-use Rattle.reporter.specs.Visits.{kind_if}
+use Rattle.drive_visits.specs.Visits.{kind_if}
 use Rattle.drive_sending.specs.{Commands.news_commands, Tokens.token_of, Driving.command_bytes}
 use Rattle.wire_replies.specs.Sinks.{Writes}
 use Rattle.drive_sending.proofs.telling.say_news.Goals as goal

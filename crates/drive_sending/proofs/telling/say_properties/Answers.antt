@@ -1,5 +1,5 @@
 use Rattle.std.proofs.Common.{map, subst}
-use Rattle.reporter.specs.Visits.{kind_if}
+use Rattle.drive_visits.specs.Visits.{kind_if}
 use Rattle.drive_sending.specs.{Commands.property_command, Driving.command_bytes}
 use Rattle.wire_replies.specs.Sinks.{Writes}
 use Rattle.drive_sending.proofs.telling.say_properties.Goals as goal

@@ -1,5 +1,5 @@
 use Rattle.std.proofs.{Common.{◌∷◌, [], ◌+◌, subst}, lemmas.Result.err_from_is_err_and}
-use Rattle.reporter.specs.Visits.{kind_if}
+use Rattle.drive_visits.specs.Visits.{kind_if}
 use Rattle.drive_sides.specs.Plans.{whole}
 use Rattle.drive_sending.specs.{Commands.{news_commands, add_command, added_entry, news_told}, Tokens.token_of, Driving.command_bytes}
 use Rattle.drive_sending.proofs.Written.{first_part, sent_behind}

@@ -1,5 +1,5 @@
 use Rattle.std.proofs.{Common.arith, lemmas.Result.err_from_is_err_and}
-use Rattle.reporter.specs.Knowing.{visit_of}
+use Rattle.drive_visits.specs.Knowing.{visit_of}
 use Rattle.drive_sides.specs.Plans.{whole}
 use Rattle.drive_sending.proofs.Visited.{deeper_by_one, said_all, said_failed, said_next, said_part}
 use Rattle.drive_sending.proofs.visits.say_visits.Goals as goal

@@ -1,6 +1,6 @@
 -- The visits so far are said, those that are left may come behind them, and what the visitor holds is known.
 use Rattle.std.proofs.Common.{◌≤◌}
-use Rattle.reporter.specs.Knowing.{HoldsKnown}
+use Rattle.drive_visits.specs.Knowing.{HoldsKnown}
 use Rattle.drive_sides.specs.{Known.IsKnownOf, Plans.whole}
 use Rattle.drive_sending.proofs.Visited.{HasSaid}
 use Rattle.drive_sending.proofs.visits.say_visits.Given as goal

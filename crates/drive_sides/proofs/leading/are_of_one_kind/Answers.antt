@@ -2,7 +2,7 @@ use Rattle.std.proofs.{Common.{◌≡◌, true, not, Option, Some, None, refl, s
 use Rattle.std.specs.Prelude.{is_some}
 use Rattle.repo_api.specs.declared.entry.Entry.{Entry}
 use Rattle.small_rules.specs.GivingWay.{gives_way}
-use Rattle.drive_reports.specs.Aims.{are_of_one_kind}
+use Rattle.reporter.specs.Aims.{are_of_one_kind}
 use Rattle.drive_sides.proofs.leading.are_of_one_kind.Goals as goal
 
 -- what is there is of one kind with what it does not give way to

@@ -1,8 +1,7 @@
 use Rattle.std.proofs.{Common.{◌||◌, sym, ap, ◌∙◌, take, option_copied}, lemmas.List.Folds.list_any_more}
 use Rattle.std.specs.{List.list_any, Prelude.is_some}
 use Rattle.svnpath.specs.Paths.{same_component}
-use Rattle.repo_api.specs.Readings.{name_in}
-use Rattle.repo_api.specs.Readings.{is_name_among}
+use Rattle.repo_api.specs.Readings.{name_in, is_name_among}
 use Rattle.drive_sides.proofs.Naming.{among_inserted, among_grafts, is_named, not_named, with_name, with_none, take-all}
 use Rattle.drive_sides.proofs.names.put_graft_names.Goals as goal
 

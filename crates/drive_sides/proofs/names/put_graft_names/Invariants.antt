@@ -1,8 +1,7 @@
 use Rattle.std.proofs.Common.{◌≡◌, ◌||◌, take}
 use Rattle.std.specs.List.{list_any}
 use Rattle.svnpath.specs.Paths.{Component}
-use Rattle.repo_api.specs.Readings.{name_in}
-use Rattle.repo_api.specs.Readings.{is_name_among}
+use Rattle.repo_api.specs.Readings.{name_in, is_name_among}
 use Rattle.drive_sides.proofs.Naming.{is_named}
 use Rattle.drive_sides.proofs.names.put_graft_names.Given as goal
 

@@ -1,8 +1,7 @@
 use Rattle.std.proofs.Common.{◌∷◌, [], ◌∙◌, refl}
 use Rattle.drive_rules.proofs.Joined.{or_left, or_right}
-use Rattle.repo_api.specs.{Readings.names_at, States.trees_in}
-use Rattle.drive_reports.specs.Places.{in_place}
-use Rattle.repo_api.specs.Readings.{is_name_among}
+use Rattle.repo_api.specs.{Readings.{names_at, is_name_among}, States.trees_in}
+use Rattle.reporter.specs.Places.{in_place}
 use Rattle.drive_sides.proofs.Listing.{among_place, none_in, on_ok}
 use Rattle.drive_sides.proofs.names.put_place_names.Goals as goal
 

@@ -1,6 +1,6 @@
 use Rattle.std.proofs.{Common.{[], sym, ◌∙◌}, lemmas.Result.IfOk-weaker}
 use Rattle.repo_api.specs.Trees.{HasDirectory}
-use Rattle.drive_reports.specs.Targets.{old_tree, new_tree}
+use Rattle.reporter.specs.Targets.{old_tree, new_tree}
 use Rattle.drive_sides.specs.Plans.{whole}
 use Rattle.drive_sides.proofs.Planned.{directory_of, root_kept, root_old, root_new, root_plan, target_plan, not_root}
 use Rattle.drive_sides.proofs.planning.visitor.Goals as goal

@@ -1,5 +1,4 @@
-use Rattle.std.proofs.Common.{rules, ap, sym, ◌∙◌}
-use Rattle.std.proofs.lemmas.Map.Made.{filter_same_pairs}
+use Rattle.std.proofs.{Common.{rules, ap, sym, ◌∙◌}, lemmas.Map.Made.filter_same_pairs}
 use Rattle.std.specs.Prelude.{option_copied}
 use Rattle.edit_rules.specs.Tokens.{opened_under, stays_open}
 use Rattle.edit_rules.proofs.Places.{filter_found}

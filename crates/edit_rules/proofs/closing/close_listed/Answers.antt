@@ -1,5 +1,4 @@
-use Rattle.std.proofs.Common.{[], ◌∷◌, ◌++◌, take, sym, ap, ◌∙◌}
-use Rattle.std.proofs.lemmas.List.{take_more}
+use Rattle.std.proofs.{Common.{[], ◌∷◌, ◌++◌, take, sym, ap, ◌∙◌}, lemmas.List.take_more}
 use Rattle.std.specs.Prelude.{option_copied}
 use Rattle.edit_rules.proofs.Places.{closed_more}
 use Rattle.edit_rules.proofs.closing.close_listed.Goals as goal

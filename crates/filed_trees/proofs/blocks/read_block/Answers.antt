@@ -1,6 +1,6 @@
 use Rattle.std.proofs.Common.{◌≡◌, ◌++◌, ◌∷◌, [], map, Some, option_map, sym, ap, subst, ◌∙◌}
 use Rattle.std.specs.{Borrow.Bor, Prelude.{All, IsSomeAnd, length, slice_get}}
-use Rattle.fsfs_reading.specs.declared.piece.FilePiece.{FilePiece}
+use Rattle.fsfs.specs.declared.piece.FilePiece.{FilePiece}
 use Rattle.filed_trees.specs.{Tables.{IsAt, IsPlaced, placed_of}, Comparing.IsOfLast, Readable.{IsReadable, IsTabled}}
 use Rattle.filed_trees.proofs.{Compared.first_of, Judged.no_part, Rows.{are_readable, each_row, placed_rows, rows_readable}}
 use Rattle.filed_trees.proofs.blocks.read_block.Goals as goal

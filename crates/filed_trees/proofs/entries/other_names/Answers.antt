@@ -3,7 +3,7 @@ use Rattle.std.proofs.{lemmas.List.take_all, lemmas.List.Elements.{All-more, All
 use Rattle.std.specs.{Borrow.Bor, Map.Iter.deref, Prelude.{Contains, IsSome}}
 use Rattle.svnpath.specs.Paths.{Component}
 use Rattle.noderevs.specs.declared.node_rev.NodeId.{NodeId}
-use Rattle.next_blocks.proofs.Listed.{of_each}
+use Rattle.block_rules.proofs.Listed.{of_each}
 use Rattle.filed_trees.specs.Comparing.{id_at}
 use Rattle.filed_trees.proofs.entries.other_names.Goals.{then-is_none+in_ok-clone+in_ok-push, else-is_none}
 use Rattle.filed_trees.proofs.entries.other_names.Goals as goal

@@ -1,5 +1,5 @@
-use Rattle.std.proofs.Common.{◌≡◌, ◌<◌, ◌≤◌, ℕ, List, Option, length, None, Some, refl, sym, ap, ◌∙◌, arith, ⊎_elim}
-use Rattle.std.proofs.lemmas.{Bool.{cases_lt, false≢true}, Option.{same_Some, slice_get-get_or, slice_get_within}}
+use Rattle.std.proofs.{Common.{◌≡◌, ◌<◌, ◌≤◌, ℕ, List, Option, length, None, Some, refl, sym, ap, ◌∙◌, arith, ⊎_elim}, lemmas.Bool.{cases_lt, false≢true}}
+use Rattle.std.proofs.lemmas.Option.{same_Some, slice_get-get_or, slice_get_within}
 use Rattle.std.specs.Prelude.{IsSomeAnd, slice_get}
 use Rattle.filed_trees.specs.declared.placed.Placed.{Placed}
 use Rattle.filed_trees.proofs.places.scanned.Goals as goal

@@ -1,11 +1,11 @@
 use Rattle.std.proofs.{Common.{◌≡◌, ◌++◌, ◌∷◌, [], length, Ok, sym, ap, subst, ◌∙◌, rules, Err, List}, lemmas.Bool.false≢true}
 use Rattle.std.specs.FinMap.{same_entries_map}
-use Rattle.fsfs_reading.specs.{Pieces.revision_of, declared.piece.FilePiece.FilePiece}
+use Rattle.fsfs.specs.{Pieces.revision_of, declared.piece.FilePiece.FilePiece}
 use Rattle.filed_trees.specs.{Tables.AreTabled, Comparing.IsLast, Readable.{IsReadableFile, Judges}, Values.IsFiledNext}
 use Rattle.filed_trees.proofs.{Reading.tabled_same, Judged.no_part, OneRepository.{last_changes_are, last_nodes, last_root_is}, Read.same_Ok}
 use Rattle.noderevs.specs.Held.{root_at}
-use Rattle.fsfs_lines.specs.declared.fault.FileFault.{FileFault}
-use Rattle.fsfs_parts.specs.declared.change.FileChange.{FileChange}
+use Rattle.fsfs_text.specs.declared.fault.FileFault.{FileFault}
+use Rattle.fsfs_nodes.specs.declared.change.FileChange.{FileChange}
 use Rattle.filed_trees.proofs.tabulating.tabulated.Goals as goal
 
 pub returns-in-Ok-true-clause-tabled : goal.returns-in-Ok-true-clause-tabled

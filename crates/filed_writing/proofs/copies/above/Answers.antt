@@ -1,5 +1,4 @@
-use Rattle.std.proofs.Common.{◌≡◌, ◌-◌, ◌<◌, List, Some, map, reverse, length, ap, sym, arith, rules, ◌∙◌}
-use Rattle.std.proofs.lemmas.List.{length-map}
+use Rattle.std.proofs.{Common.{◌≡◌, ◌-◌, ◌<◌, List, Some, map, reverse, length, ap, sym, arith, rules, ◌∙◌}, lemmas.List.length-map}
 use Rattle.std.proofs.lemmas.Option.{slice_get-map}
 use Rattle.std.specs.Prelude.{option_and_then, option_copied, option_map, slice_get}
 use Rattle.filed_writing.specs.{Drafts.copy_from, Layout.known_from, Pieces.Copy}

@@ -1,5 +1,5 @@
 use Rattle.std.proofs.{Common.{◌≡◌, [], map, drop, ◌++◌, ap, sym, ◌∙◌}, lemmas.List.{append-nil, at_drop_all}}
-use Rattle.std.specs.{Map.Iter.deref}
+use Rattle.std.specs.Map.Iter.{deref}
 use Rattle.filed_trees.specs.Comparing.{named_kid}
 use Rattle.filed_writing.proofs.entries.kids_of.Goals as goal
 

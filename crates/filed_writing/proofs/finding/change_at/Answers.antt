@@ -2,7 +2,7 @@ use Rattle.std.proofs.{Common.{◌≡◌, List, Some, ap, length, ltb-true, refl
 use Rattle.std.specs.declared.cmp.Ordering.TheVariants.{Equal}
 use Rattle.svnpath.specs.Paths.{path_cmp}
 use Rattle.repo_api.specs.Histories.{Changed}
-use Rattle.next_blocks.proofs.Searching.{hit}
+use Rattle.block_rules.proofs.Searching.{hit}
 use Rattle.filed_writing.proofs.finding.change_at.Goals as goal
 
 pub returns-in-Equal : goal.returns-in-Equal

@@ -1,7 +1,7 @@
 use Rattle.std.proofs.{Common.{List, get_or, of_calls, rules, sym}, lemmas.Fn.always_returns_same, lemmas.Option.slice_get-get_or}
 use Rattle.svnpath.specs.Paths.{path_cmp}
 use Rattle.repo_api.specs.Histories.{Changed}
-use Rattle.next_blocks.proofs.Searching.{hit, miss}
+use Rattle.block_rules.proofs.Searching.{hit, miss}
 use Rattle.filed_writing.proofs.finding.change_near.Goals as goal
 
 -- the search ended at the path's entry

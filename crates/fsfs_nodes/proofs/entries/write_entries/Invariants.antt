@@ -1,6 +1,6 @@
 use Rattle.std.proofs.Common.{◌≡◌, take}
 use Rattle.std.specs.List.{flat_map}
-use Rattle.fsfs_dumps.specs.Dumps.{pair_bytes}
+use Rattle.fsfs_text.specs.Dumps.{pair_bytes}
 use Rattle.fsfs_nodes.specs.Entries.{entry_pairs}
 use Rattle.fsfs_nodes.proofs.entries.write_entries.Given as goal
 

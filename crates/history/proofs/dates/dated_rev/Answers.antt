@@ -1,5 +1,5 @@
 use Rattle.std.proofs.Common.{ap, ◌∙◌, sym}
-use Rattle.repo_api.specs.{Dates.is_dated}
+use Rattle.repo_api.specs.Dates.{is_dated}
 use Rattle.history.specs.Dates.{greatest}
 use Rattle.history.proofs.Dating.{greatest_before, greatest_since}
 use Rattle.history.proofs.dates.dated_rev.Goals as goal

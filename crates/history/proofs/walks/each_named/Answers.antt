@@ -2,7 +2,8 @@ use Rattle.std.proofs.Common.{◌∷◌, [], ◌++◌, ◌+◌, true, cond, sym,
 use Rattle.std.specs.{BTreeMap.is_at, BTreeSet.contains, List.list_any}
 use Rattle.svnpath.specs.Paths.{path_cmp, same_path}
 use Rattle.history.specs.Logs.{AreSameNamed}
-use Rattle.history.proofs.{Naming.{named_again, named_new, seen_with}, Once.was_seen, walks.each_named.Goals.{then-branch+in_ok-clone-2+in_ok-push, else-branch}}
+use Rattle.history.proofs.{Naming.{named_again, named_new, seen_with}, Once.was_seen}
+use Rattle.history.proofs.walks.each_named.Goals.{then-branch+in_ok-clone-2+in_ok-push, else-branch}
 use Rattle.history.proofs.walks.each_named.Goals as goal
 
 pub loop-path-preserved : goal.loop-path-preserved

@@ -1,5 +1,4 @@
-use Rattle.hub_runs.proofs.Failing.{run_halted}
-use Rattle.hub.proofs.Calling.{calls_halted}
+use Rattle.hub.proofs.{Failing.run_halted, Calling.calls_halted}
 use Rattle.hub.proofs.laws.a_halt_stays.Goals as goal
 
 pub returns : goal.returns

@@ -1,5 +1,4 @@
-use Rattle.hub_runs.proofs.Staying.{run_constants}
-use Rattle.hub.proofs.Calling.{calls_constants}
+use Rattle.hub.proofs.{Staying.run_constants, Calling.calls_constants}
 use Rattle.hub.proofs.laws.constants_stay.Goals as goal
 
 pub returns : goal.returns

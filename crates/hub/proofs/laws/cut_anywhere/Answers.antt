@@ -1,4 +1,4 @@
-use Rattle.hub_runs.specs.SessionLaws.{yields_more}
+use Rattle.hub.specs.SessionLaws.{yields_more}
 use Rattle.hub.proofs.laws.cut_anywhere.Goals as goal
 
 pub returns : goal.returns

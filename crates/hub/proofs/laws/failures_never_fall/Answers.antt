@@ -1,5 +1,4 @@
-use Rattle.hub_runs.proofs.Failing.{run_counted, never_falls}
-use Rattle.hub.proofs.Calling.{calls_counted}
+use Rattle.hub.proofs.{Failing.{run_counted, never_falls}, Calling.calls_counted}
 use Rattle.hub.proofs.laws.failures_never_fall.Goals as goal
 
 pub returns : goal.returns

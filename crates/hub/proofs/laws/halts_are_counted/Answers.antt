@@ -1,5 +1,4 @@
-use Rattle.hub_runs.proofs.Failing.{run_counted, not_halted}
-use Rattle.hub.proofs.Calling.{calls_counted}
+use Rattle.hub.proofs.{Failing.{run_counted, not_halted}, Calling.calls_counted}
 use Rattle.hub.proofs.laws.halts_are_counted.Goals as goal
 
 pub returns : goal.returns

@@ -1,4 +1,4 @@
-use Rattle.hub_runs.proofs.Trees.{opening_sound}
+use Rattle.hub.proofs.Trees.{opening_sound}
 use Rattle.hub.proofs.laws.new_repositories_are_sound.Goals as goal
 
 pub returns : goal.returns

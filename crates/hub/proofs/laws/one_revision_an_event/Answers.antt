@@ -1,4 +1,4 @@
-use Rattle.hub_runs.proofs.Staying.{event_counts}
+use Rattle.hub.proofs.Staying.{event_counts}
 use Rattle.hub.proofs.laws.one_revision_an_event.Goals as goal
 
 pub returns : goal.returns

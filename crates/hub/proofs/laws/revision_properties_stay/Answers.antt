@@ -1,5 +1,4 @@
-use Rattle.hub_runs.proofs.Staying.{others_kept, run_closed}
-use Rattle.hub.proofs.Calling.{calls_closed}
+use Rattle.hub.proofs.{Staying.{others_kept, run_closed}, Calling.calls_closed}
 use Rattle.hub.proofs.laws.revision_properties_stay.Goals as goal
 
 pub returns-clause-others : goal.returns-clause-others

@@ -1,5 +1,4 @@
-use Rattle.hub_runs.proofs.Staying.{run_keeps}
-use Rattle.hub.proofs.Calling.{calls_keep_revisions}
+use Rattle.hub.proofs.{Staying.run_keeps, Calling.calls_keep_revisions}
 use Rattle.hub.proofs.laws.revisions_stay.Goals as goal
 
 pub returns : goal.returns

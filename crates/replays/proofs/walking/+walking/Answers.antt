@@ -1,10 +1,10 @@
-use Rattle.std.proofs.{Common.{◌≡◌, ◌-◌, ◌<◌, ◌++◌, ◌∷◌, [], suc, arith, rules, tests, false, true, is_some, sym, ap, ◌∙◌, flat_map, subst}, lemmas.Result.err_from_is_err_and}
+use Rattle.std.proofs.Common.{◌≡◌, ◌-◌, ◌<◌, ◌++◌, ◌∷◌, [], suc, arith, rules, tests, false, true, is_some, sym, ap, ◌∙◌, flat_map, subst}
+use Rattle.std.proofs.lemmas.Result.{err_from_is_err_and}
 use Rattle.repo_api.specs.Kinds.{is_directory_kind}
 use Rattle.wire_replies.specs.{Made.Makes, Sinks.{Writes, WritesPart}}
 use Rattle.wire_replies.proofs.Parts.{part_none}
-use Rattle.replays.specs.Commands.{add_command, close_command, open_command}
-use Rattle.replays.specs.Edits.{below, inside_commands, is_named, standing_commands}
-use Rattle.replays.specs.{Places.place_in, Sending.command_bytes, Shaping.base_of}
+use Rattle.replays.specs.{Commands.{add_command, close_command, open_command}, Edits.{below, inside_commands, is_named, standing_commands}, Places.place_in}
+use Rattle.replays.specs.{Sending.command_bytes, Shaping.base_of}
 use Rattle.replays.proofs.Quiet.{below_visited, entry_at}
 use Rattle.replays.proofs.Walked.{chosen, entry_there, gone_of, inside_directory, inside_file, own_of, passed, standing_added, standing_kept}
 use Rattle.replays.proofs.Written.{first_part, Going, going_failed, going_from, going_on, sent_behind}

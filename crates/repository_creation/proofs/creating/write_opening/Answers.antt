@@ -1,6 +1,6 @@
 use Rattle.std.proofs.Common.{[], ◌∷◌, inl, refl, rules, subst, sym, ap, ◌∙◌}
 use Rattle.std.specs.Prelude.{IsErr}
-use Rattle.fsfs_format.specs.Formats.{shard_in}
+use Rattle.fsfs_text.specs.Formats.{shard_in}
 use Rattle.store_files.specs.declared.name.FileName.TheVariants.{Format, Kind, Uuid, Current, Revision, Properties, RepositoryFormat}
 use Rattle.repostore.specs.Files.{HasFiles}
 use Rattle.repository_creation.specs.Creating.{IsFreeWith, IsFreeOrHas}

@@ -1,6 +1,6 @@
 use Rattle.std.proofs.Common.{◌≡◌, sym, ◌∙◌, subst, rules, Some, ℕ}
 use Rattle.std.specs.Prelude.{OnOk}
-use Rattle.fsfs_format.specs.{Formats.layout_in, declared.format.Layout.Layout}
+use Rattle.fsfs_text.specs.{Formats.layout_in, declared.format.Layout.Layout}
 use Rattle.store_files.specs.{Folders.Folder, declared.name.FileName.TheVariants.{Format, Locks}}
 use Rattle.repostore.specs.Saving.{Stands}
 use Rattle.repository_creation.specs.Migrating.{HasSome, IsFree, moved_locks}

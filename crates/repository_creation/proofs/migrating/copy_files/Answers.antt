@@ -1,5 +1,5 @@
 use Rattle.std.proofs.Common.{◌≡◌, inl, inr, sym, ap, ◌∙◌, subst, rules, ℕ, Option, List}
-use Rattle.fsfs_format.specs.Formats.{layout_in}
+use Rattle.fsfs_text.specs.Formats.{layout_in}
 use Rattle.store_files.specs.declared.name.FileName.TheVariants.{Format}
 use Rattle.repostore.specs.Files.{Files, reached}
 use Rattle.repository_creation.specs.{Creating.IsFreeOrHas, Migrating.{IsFree, Makes, moved_files}}

@@ -1,5 +1,5 @@
 use Rattle.std.proofs.Common.{◌≡◌, sym, ap, ◌∙◌, rules}
-use Rattle.fsfs_format.specs.Formats.{shard_in}
+use Rattle.fsfs_text.specs.Formats.{shard_in}
 use Rattle.store_files.specs.{Folders.text_of, declared.name.FileName.TheVariants.{Revision, Properties}}
 use Rattle.repostore.proofs.Readings.{reads_then}
 use Rattle.repository_creation.proofs.Copying.{reads_failed, step_of_reads, step_of_writes, step_then}

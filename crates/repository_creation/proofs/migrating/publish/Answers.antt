@@ -1,6 +1,6 @@
 use Rattle.std.proofs.Common.{◌≡◌, inl, Some, refl, rules, subst, sym, ◌∙◌}
 use Rattle.std.specs.Prelude.{IsErr}
-use Rattle.fsfs_format.specs.Formats.{layout_in}
+use Rattle.fsfs_text.specs.Formats.{layout_in}
 use Rattle.store_files.specs.{Folders.Folder, declared.name.FileName.TheVariants.{Current, Format, Locks}}
 use Rattle.repostore.specs.{Files.{HasFiles, reached}, Saving.Replaces}
 use Rattle.repository_creation.specs.{Creating.IsFreeOrHas, Migrating.{HasSome, IsFree, moved_files, moved_locks}}

@@ -1,5 +1,5 @@
 use Rattle.std.proofs.Common.{◌≡◌, ◌+◌, ℕ, Option, Some, sym, ap, ◌∙◌}
-use Rattle.fsfs_format.specs.Formats.{shard_in}
+use Rattle.fsfs_text.specs.Formats.{shard_in}
 use Rattle.store_files.specs.{Folders.Folder, declared.name.FileName.TheVariants.{Revision, Properties}}
 use Rattle.repository_creation.specs.Migrating.{HasSome, IsFree}
 use Rattle.repostore.proofs.Steps.{begun, stands_too, wrote, with_bytes, ok_gives_both}

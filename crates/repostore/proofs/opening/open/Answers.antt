@@ -1,5 +1,5 @@
 use Rattle.std.proofs.Common.{refl, ap, ◌∙◌}
-use Rattle.fsfs_format.specs.Formats.{layout_in}
+use Rattle.fsfs_text.specs.Formats.{layout_in}
 use Rattle.repostore.proofs.Reaching.{same_files, is_length, format_is}
 use Rattle.repostore.proofs.opening.open.Goals as goal
 

@@ -1,10 +1,9 @@
-use Rattle.std.proofs.Common.{◌≡◌, ◌++◌, sym, ap, subst, ◌∙◌}
-use Rattle.std.proofs.lemmas.List.{append-nil}
+use Rattle.std.proofs.{Common.{◌≡◌, ◌++◌, sym, ap, subst, ◌∙◌}, lemmas.List.append-nil}
 use Rattle.std.specs.List.{filter}
 use Rattle.revision_data.specs.Found.{is_listed}
 use Rattle.revision_data.proofs.Beneath.{behind, Ends, ends_behind, listed_all, listed_is, under}
-use Rattle.revision_data.proofs.path_map.paths_beneath.Goals as goal
 use Rattle.revision_data.proofs.path_map.paths_beneath.Goals.{in-None, in-Some+then-not-is_at_or_under}
+use Rattle.revision_data.proofs.path_map.paths_beneath.Goals as goal
 
 pub loop-key-init : goal.loop-key-init
 loop-key-init g c =

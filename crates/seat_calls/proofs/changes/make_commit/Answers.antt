@@ -5,8 +5,7 @@ use Rattle.repo_api.specs.Accepted.Accepted.{Commits, Releases}
 use Rattle.keepers.specs.Standing.{HappensAt, now_of}
 use Rattle.keepers.proofs.Stopping.{still}
 use Rattle.seat_calls.specs.Releasing.{ReleasesHanded}
-use Rattle.seat_calls.proofs.Stopping.{committed_and_released, not_released}
-use Rattle.seat_calls.proofs.Changing.{released}
+use Rattle.seat_calls.proofs.{Stopping.{committed_and_released, not_released}, Changing.released}
 use Rattle.seat_calls.proofs.changes.make_commit.Goals as goal
 
 pub returns-in-Ok-make_revision-clause-point : goal.returns-in-Ok-make_revision-clause-point

@@ -1,6 +1,6 @@
 use Rattle.published.specs.Events.{state_of}
 use Rattle.keepers.proofs.Keeping.{stands_now}
-use Rattle.stops.proofs.Running.{AreLasting, run_from, within}
+use Rattle.access.proofs.Running.{AreLasting, run_from, within}
 use Rattle.seat_calls.proofs.laws.a_stop_leaves_a_beginning.Goals as goal
 
 pub returns-clause-stop : goal.returns-clause-stop

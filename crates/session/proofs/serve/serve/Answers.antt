@@ -1,5 +1,5 @@
 use Rattle.access.specs.Points.{content_of}
-use Rattle.machine.specs.{Hearing.Input.Broken}
+use Rattle.machine.specs.Hearing.Input.{Broken}
 use Rattle.session.specs.Knowing.{StepIfKnown}
 use Rattle.session_replies.proofs.Steps.{said, unparted}
 use Rattle.session.proofs.{Answered.{broken_answer, broken_nothing, step_broken}, Known.broken_is_known}

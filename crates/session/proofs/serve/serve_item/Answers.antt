@@ -4,7 +4,7 @@ use Rattle.commands.specs.Logins.{client_greeting}
 use Rattle.wire_edits.specs.Editing.{ends_edit}
 use Rattle.machine.specs.{Hearing.Input.Whole, Logins.greeting_answer, Machine.{InputStep, skipping_answer}, Reports.driven_answer}
 use Rattle.machine.specs.declared.phase.Phase.TheVariants.{Greeted, Skipping, Driven}
-use Rattle.drive_wire.specs.Reporting.{client_answer}
+use Rattle.reporter.specs.Reporting.{client_answer}
 use Rattle.session_replies.proofs.Steps.{only_says, told_all, said, unparted}
 use Rattle.session.proofs.Answered.{greeting_nothing, skipping_nothing, driven_nothing}
 use Rattle.session.proofs.serve.serve_item.Goals as goal

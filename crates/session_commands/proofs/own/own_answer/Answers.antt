@@ -5,7 +5,7 @@ use Rattle.wire_replies.specs.declared.reply.Reply.TheVariants as replies
 use Rattle.access.specs.Points.{content_of}
 use Rattle.machine.specs.{Answers.{says, serves}, Commands.{asked_by, commit_begins, drive_ask, lock_tokens, reparented}}
 use Rattle.machine.specs.declared.phase.Phase.TheVariants.{Serving}
-use Rattle.drive_reports.specs.Refusing.{begun_report}
+use Rattle.reporter.specs.Refusing.{begun_report}
 use Rattle.session_commands.proofs.Answered.{begins, moves, answered, opened}
 use Rattle.session_replies.specs.Telling.{told_before}
 use Rattle.session_commands.proofs.own.own_answer.Goals as goal

@@ -1,4 +1,4 @@
-use Rattle.std.proofs.{Common.{rules, ◌≡◌, ◌∙◌, [], List, ℕ, map, drop, ap, subst}, lemmas.{List.drop_all, Result.err_from_is_err_and}}
+use Rattle.std.proofs.{Common.{rules, ◌≡◌, ◌∙◌, [], List, ℕ, map, drop, ap, subst}, lemmas.List.drop_all, lemmas.Result.err_from_is_err_and}
 use Rattle.std.specs.Map.Iter.{deref}
 use Rattle.items.specs.Print.{row_printed}
 use Rattle.machine.specs.Readings.{entry_told}

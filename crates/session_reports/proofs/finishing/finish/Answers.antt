@@ -1,5 +1,5 @@
 use Rattle.std.proofs.Common.{[], Some, refl}
-use Rattle.drive_wire.specs.{Reporting.Drawn.Fails, Reporting.EndStep}
+use Rattle.reporter.specs.{Reporting.Drawn.Fails, Reporting.EndStep}
 use Rattle.machine.specs.Reports.{drawn_answer, Draws}
 use Rattle.session_replies.proofs.Steps.{told_all, said, behind_answered}
 use Rattle.session_reports.proofs.Drawing.{drives, fails, lost}

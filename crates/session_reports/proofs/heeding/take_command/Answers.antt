@@ -1,5 +1,5 @@
 use Rattle.std.proofs.Common.{refl}
-use Rattle.drive_wire.specs.Reporting.Drawn.{GoesOn, GivenUp}
+use Rattle.reporter.specs.Reporting.Drawn.{GoesOn, GivenUp}
 use Rattle.session_reports.proofs.Drawing.{untold}
 use Rattle.session_replies.proofs.Steps.{only_says, told_all}
 use Rattle.session_reports.proofs.heeding.take_command.Goals as goal

@@ -1,7 +1,7 @@
 use Rattle.std.proofs.Common.{refl, inl}
 use Rattle.items.specs.View.{value_of}
 use Rattle.wire_reports.specs.Reporting.{report_command}
-use Rattle.drive_wire.specs.Reporting.Drawn.{GoesOn, Malformed}
+use Rattle.reporter.specs.Reporting.Drawn.{GoesOn, Malformed}
 use Rattle.machine.proofs.Refusing.{bad, unknown}
 use Rattle.session_replies.proofs.Steps.{stepped, only_says, told_all}
 use Rattle.session_reports.proofs.reporting_item.open_report_item.Goals as goal

@@ -1,9 +1,8 @@
 use Rattle.std.proofs.Common.{ap, refl, subst, sym, ◌∙◌}
 use Rattle.items.specs.View.{value_of}
 use Rattle.access.specs.Points.{content_of}
-use Rattle.drive_reports.specs.Refusing.{ReportState}
+use Rattle.reporter.specs.{Refusing.ReportState, Reporting.{ReportStep, refused_drawn}}
 use Rattle.wire_reports.specs.Reporting.{name_of}
-use Rattle.drive_wire.specs.Reporting.{ReportStep, refused_drawn}
 use Rattle.machine.specs.Reports.{drawn_answer, ReportingStep}
 use Rattle.session_replies.proofs.Steps.{said}
 use Rattle.session_reports.proofs.Drawing.{drawn_nothing}

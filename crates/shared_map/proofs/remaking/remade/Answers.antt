@@ -1,6 +1,6 @@
 use Rattle.std.proofs.Common.{◌++◌, [], take, drop, sym, ap, subst, arith, ◌∙◌}
 use Rattle.std.specs.{Prelude.T, FinMap.Entries.is_sorted}
-use Rattle.shared_map.specs.{Entries.{by_bytes}, Rows.row_entries}
+use Rattle.shared_map.specs.{Entries.by_bytes, Rows.row_entries}
 use Rattle.shared_map.proofs.Rows.{next_rows, all_rows}
 use Rattle.shared_map.proofs.remaking.remade.Goals as goal
 

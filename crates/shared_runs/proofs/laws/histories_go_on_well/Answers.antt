@@ -1,10 +1,9 @@
 use Rattle.std.proofs.Common.{◌≡◌, [], ◌++◌, sym, subst, ◌∙◌}
-use Rattle.repo_api.specs.{Accepted.{changed_all}, States.{IsBeginning, RepoState}}
+use Rattle.repo_api.specs.{Accepted.changed_all, States.{IsBeginning, RepoState}}
 use Rattle.published.specs.{Events.{changes_in, first_in, state_of}, Moments.changed_more}
 use Rattle.published.proofs.Histories.{changes_more, first_more, follow_split, history_sound, longer_yet, right_after}
-use Rattle.hub_runs.proofs.Staying.{changes_keep, others_kept}
-use Rattle.hub.proofs.Respecting.{respected}
-use Rattle.hub_runs.specs.Done.{GoesOnBy}
+use Rattle.hub.proofs.{Staying.{changes_keep, others_kept}, Respecting.respected}
+use Rattle.hub.specs.Done.{GoesOnBy}
 use Rattle.shared_runs.proofs.Going.{are_accepted, keep_sides}
 use Rattle.shared_runs.proofs.laws.histories_go_on_well.Goals as goal
 

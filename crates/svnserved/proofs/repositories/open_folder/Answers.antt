@@ -1,7 +1,7 @@
 use Rattle.std.proofs.Common.{subst}
 use Rattle.store_files.specs.{Folders.Folder, Note.folder_of, Replay.held}
-use Rattle.filed_world.specs.Files.{filed_content}
-use Rattle.folder_hub.specs.Opening.{IsFoundIn}
+use Rattle.filed_repository.specs.Files.{filed_content}
+use Rattle.hub.specs.Opening.{IsFoundIn}
 use Rattle.svnserved.proofs.repositories.open_folder.Goals as goal
 
 pub returns-in-Ok : goal.returns-in-Ok

@@ -1,5 +1,4 @@
-use Rattle.std.proofs.Common.{◌≤◌, ◌+◌, ◌-◌, length, arith}
-use Rattle.std.proofs.lemmas.List.{take_rest}
+use Rattle.std.proofs.{Common.{◌≤◌, ◌+◌, ◌-◌, length, arith}, lemmas.List.take_rest}
 use Rattle.text_deltas.proofs.Groups.{group_more_behind}
 use Rattle.text_deltas.proofs.shared.alike_in_groups_at_end.Goals as goal
 

@@ -8,8 +8,7 @@ use Rattle.txntree.specs.{Changes.{first_of, IsWalking}, Spots.{change_spot, cha
 use Rattle.txntree.specs.{declared.open.Change.Change, declared.open.OpenNode.OpenNode, declared.open.Change.TheVariants.{Is, Gone}}
 use Rattle.txntree.specs.declared.open.Change.TheViews.{roll-OpenNode}
 use Rattle.txntree.proofs.{Changes.{first_here, walk_begins, walk_goes_on, walk_passes}, Walking.{is_spot, gone_spot, nothing_there}}
-use Rattle.std.specs.{BTreeMap.is_at, Map.{lookup, keys_of}, Cmp.Lexicographic.slice_cmp, Ordering.nat_cmp}
-use Rattle.std.specs.List.Sorted.{IsStrictlySortedBy}
+use Rattle.std.specs.{BTreeMap.is_at, Map.{lookup, keys_of}, Cmp.Lexicographic.slice_cmp, Ordering.nat_cmp, List.Sorted.IsStrictlySortedBy}
 use Rattle.svnpath.specs.Paths.{Component}
 use Rattle.repo_api.specs.declared.entry.Mark.TheVariants.{Open, Made}
 use Rattle.treemerge.proofs.merging.+merge.Goals as goal

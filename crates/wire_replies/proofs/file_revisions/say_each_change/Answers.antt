@@ -1,4 +1,4 @@
-use Rattle.std.proofs.{Common.{rules, ◌≡◌, ◌∙◌, [], List, ℕ, drop, ap, subst}, lemmas.{List.drop_all, Result.err_from_is_err_and}}
+use Rattle.std.proofs.{Common.{rules, ◌≡◌, ◌∙◌, [], List, ℕ, drop, ap, subst}, lemmas.List.drop_all, lemmas.Result.err_from_is_err_and}
 use Rattle.items.specs.Print.{row_printed}
 use Rattle.wire_replies.specs.Replies.{property_change_trees}
 use Rattle.wire_replies.proofs.{PropertyRows.{property_change_tree, row_of-property_changes}, Row.{all_written, next_left, one_unwritten, one_written}}

@@ -1,5 +1,5 @@
 use Rattle.std.proofs.{Common.{codes, refl}, lemmas.Result.err_from_is_err_and}
-use Rattle.items.specs.{Print.row_printed}
+use Rattle.items.specs.Print.{row_printed}
 use Rattle.wire_replies.specs.Replies.{property_trees}
 use Rattle.wire_replies.proofs.Row.{body_unwritten, head_unwritten, tail_written}
 use Rattle.wire_replies.proofs.properties.say_property_list.Goals as goal

@@ -2,8 +2,8 @@ use Rattle.std.proofs.Common.{◌<◌, sym, ap, subst, ◌∙◌}
 use Rattle.std.specs.{List.Sorted.IsStrictlySortedBy, Map.keys_of}
 use Rattle.svnpath.specs.Paths.{path_cmp}
 use Rattle.noderevs.specs.Held.{count}
-use Rattle.held.proofs.Seen.{held_many}
-use Rattle.next_blocks.proofs.Ordered.{in_order}
+use Rattle.shared_revisions.proofs.Seen.{held_many}
+use Rattle.block_rules.proofs.Ordered.{in_order}
 use Rattle.world.proofs.adding.may_come_next.Goals as goal
 
 pub is_next_revision-requires-clause-sorted : goal.is_next_revision-requires-clause-sorted

@@ -1,5 +1,5 @@
 use Rattle.std.proofs.{Common.{◌≡◌, ◌<◌, ap, sym, subst, ◌∙◌}, Math.Logic.∥∥₁_map}
-use Rattle.held.specs.{Contents.{held_state, revisions_of}, declared.held.Held.Held}
+use Rattle.shared_revisions.specs.{Contents.{held_state, revisions_of}, declared.held.Held.Held}
 use Rattle.world.specs.Adding.{HasFirstList}
 use Rattle.world.proofs.Keeping.{same_revisions}
 use Rattle.world.proofs.adding.with_first_list.Goals as goal

@@ -1,6 +1,6 @@
 use Rattle.std.proofs.{Common.{ap, sym, subst, ◌∙◌}, Math.Logic.∥∥₁_map}
-use Rattle.held.specs.{Contents.{held_state, revisions_of}, Growing.HasNext}
-use Rattle.next_blocks.proofs.Sound.{block_mapped, block_next, block_placed, sound_after}
+use Rattle.shared_revisions.specs.{Contents.{held_state, revisions_of}, Growing.HasNext}
+use Rattle.block_rules.proofs.Sound.{block_mapped, block_next, block_placed, sound_after}
 use Rattle.world.proofs.adding.with_next.Goals as goal
 
 pub with_revision-requires-clause-next : goal.with_revision-requires-clause-next

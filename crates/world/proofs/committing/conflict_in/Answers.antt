@@ -1,7 +1,7 @@
 use Rattle.std.proofs.Common.{sym, ap, subst, ◌∙◌}
 use Rattle.repo_api.specs.States.{IsBeginning}
 use Rattle.txntree.specs.Whole.{txn_tree}
-use Rattle.held.specs.{Contents.revisions_of, Maps.IsMapOf, declared.held.Held.Held}
+use Rattle.shared_revisions.specs.{Contents.revisions_of, Maps.IsMapOf, declared.held.Held.Held}
 use Rattle.world.specs.Whole.{txn_map, txn_state_of}
 use Rattle.world.proofs.{Keeping.told_here, Lists.{begins_on, goes_on}, Mapping.{txn_map_is, txn_sound}}
 use Rattle.world.proofs.committing.conflict_in.Goals as goal

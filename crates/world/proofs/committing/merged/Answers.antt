@@ -2,7 +2,8 @@ use Rattle.std.proofs.Common.{rules, refl, sym, ap, subst, ◌∙◌}
 use Rattle.std.specs.Prelude.{Err, IsErrOf}
 use Rattle.repo_api.specs.States.{IsBeginning}
 use Rattle.txntree.specs.Whole.{txn_tree}
-use Rattle.held.specs.{Committing.IsMerge, Contents.revisions_of, Maps.IsMapOf, declared.committing.CommitFault.TheVariants.Conflict, declared.held.Held.Held}
+use Rattle.shared_revisions.specs.{Committing.IsMerge, Contents.revisions_of, Maps.IsMapOf, declared.committing.CommitFault.TheVariants.Conflict}
+use Rattle.shared_revisions.specs.declared.held.Held.{Held}
 use Rattle.world.specs.Whole.{txn_map, txn_state_of}
 use Rattle.world.proofs.{Keeping.told_here, Lists.{begins_on, goes_on}, Mapping.{txn_map_is, txn_sound}}
 use Rattle.world.proofs.committing.merged.Goals as goal

@@ -1,7 +1,7 @@
 use Rattle.std.proofs.Common.{Option, subst}
 use Rattle.svnpath.specs.Paths.{PathValue}
 use Rattle.repo_api.specs.RefusalLaws.{refused_by_lock, refused_in_conflict}
-use Rattle.held.specs.Contents.{state_of}
+use Rattle.shared_revisions.specs.Contents.{state_of}
 use Rattle.world.specs.{Committing.IsConflictFor, Whole.txn_state_of}
 use Rattle.world.proofs.committing.refused_at.Goals as goal
 

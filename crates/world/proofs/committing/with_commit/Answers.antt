@@ -1,4 +1,4 @@
-use Rattle.held.specs.{Committing.next_map, Contents.state_of}
+use Rattle.shared_revisions.specs.{Committing.next_map, Contents.state_of}
 use Rattle.world.specs.Whole.{txn_map, txn_state_of}
 use Rattle.world.proofs.Limits.{under_limit}
 use Rattle.world.proofs.committing.with_commit.Goals as goal

@@ -4,9 +4,10 @@ use Rattle.svnpath.specs.Paths.{PathValue}
 use Rattle.repo_api.specs.{Edits.edited, RightEdits.IsRightEdit, States.{tree_of, trees_in}}
 use Rattle.noderevs.specs.{Held.{node_at, root_at}, declared.node_rev.NodeId.NodeId}
 use Rattle.txntree.specs.Whole.{IsSound, txn_tree}
-use Rattle.held.specs.{Contents.revisions_of, declared.held.Held.Held}
+use Rattle.shared_revisions.specs.{Contents.revisions_of, declared.held.Held.Held}
 use Rattle.world.specs.{Open.{Begins, IsOpen}, Whole.{txn_map, txn_state_of}}
-use Rattle.world.proofs.{Lists.{begins, begins_on, goes_on}, Mapping.{right_over, state_stays, txn_map_is, txn_sound}, Opening.{edited_open, edited_txn, open_stays}}
+use Rattle.world.proofs.{Lists.{begins, begins_on, goes_on}, Mapping.{right_over, state_stays, txn_map_is, txn_sound}}
+use Rattle.world.proofs.Opening.{edited_open, edited_txn, open_stays}
 use Rattle.world.proofs.editing.edit_here.Goals as goal
 
 pub edit_parts-requires : goal.edit_parts-requires

@@ -4,9 +4,10 @@ use Rattle.svnpath.specs.Paths.{PathValue}
 use Rattle.repo_api.specs.{Edits.edited, RightEdits.IsRightEdit, States.{IsBeginning, trees_in}}
 use Rattle.noderevs.specs.{Held.{node_at, root_at}, declared.node_rev.NodeId.NodeId}
 use Rattle.txntree.specs.Whole.{IsSound, txn_tree}
-use Rattle.held.specs.{Contents.revisions_of, Maps.IsMapOf, declared.held.Held.Held}
+use Rattle.shared_revisions.specs.{Contents.revisions_of, Maps.IsMapOf, declared.held.Held.Held}
 use Rattle.world.specs.{Open.IsOpen, Whole.{txn_map, txn_state_of}}
-use Rattle.world.proofs.{Lists.{begins_itself, begins_on, goes_on, still_within}, Mapping.{state_stays, txn_map_is, txn_sound}, Opening.{edited_open, edited_txn}}
+use Rattle.world.proofs.{Lists.{begins_itself, begins_on, goes_on, still_within}, Mapping.{state_stays, txn_map_is, txn_sound}}
+use Rattle.world.proofs.Opening.{edited_open, edited_txn}
 use Rattle.world.proofs.editing.edit_there.Goals as goal
 
 pub moved-requires-clause-begins : goal.moved-requires-clause-begins

@@ -1,8 +1,8 @@
 use Rattle.std.proofs.Common.{rules, length, sym, ap, ◌∙◌}
-use Rattle.held.specs.{Contents.revisions_of, declared.held.Held.Held}
+use Rattle.shared_revisions.specs.{Contents.revisions_of, declared.held.Held.Held}
 use Rattle.world.proofs.{Alike.{not_copied, over_the_same}, Lists.{as_many, begins_on, goes_on}}
-use Rattle.world.proofs.editing.edit_txn.Goals as goal
 use Rattle.world.proofs.editing.edit_txn.Goals.{then-not-is_copy-via-then-not-is_copy, then-not-is_copy-via-else-not-is_copy+then-count}
+use Rattle.world.proofs.editing.edit_txn.Goals as goal
 
 pub edit_here-requires-clause-alike : goal.edit_here-requires-clause-alike
 edit_here-requires-clause-alike c =

@@ -1,5 +1,5 @@
 use Rattle.std.proofs.Common.{sym}
-use Rattle.held.specs.Contents.{held_state}
+use Rattle.shared_revisions.specs.Contents.{held_state}
 use Rattle.world.proofs.repository.refusal_of.Goals as goal
 
 pub returns : goal.returns

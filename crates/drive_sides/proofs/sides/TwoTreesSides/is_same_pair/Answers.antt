@@ -1,5 +1,5 @@
 use Rattle.std.proofs.{Common.rules, lemmas.Result.IfOk-weaker}
-use Rattle.drive_reports.specs.Places.{AllHoldTogether}
+use Rattle.reporter.specs.Places.{AllHoldTogether}
 use Rattle.drive_sides.specs.Plans.{whole}
 use Rattle.drive_sides.proofs.SameBeneath.{same_pair}
 use Rattle.drive_sides.proofs.sides.TwoTreesSides.is_same_pair.Goals as goal

@@ -1,7 +1,7 @@
 use Rattle.std.proofs.Common.{[], subst, sym}
-use Rattle.reporter.specs.Walks.{IsListed}
-use Rattle.reporter.proofs.Children.{children_all, children_are}
-use Rattle.drive_reports.specs.{Reported.reported_entries, Targets.{client_tree, new_tree, old_tree, target_entries}}
+use Rattle.drive_visits.specs.Walks.{IsListed}
+use Rattle.drive_visits.proofs.Children.{children_all, children_are}
+use Rattle.reporter.specs.{Reported.reported_entries, Targets.{client_tree, new_tree, old_tree, target_entries}}
 use Rattle.drive_sides.specs.{Depths.Reaches, Plans.{drive_trees, whole}, declared.reach.Reach.Reach, declared.reach.Reach.TheVariants.NoChild}
 use Rattle.drive_sides.proofs.Listing.{had_all, named_all, none_named}
 use Rattle.drive_sides.proofs.two_trees.TwoTrees.child_paths.Goals as goal

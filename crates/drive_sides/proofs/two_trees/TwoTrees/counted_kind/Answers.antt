@@ -1,6 +1,6 @@
 use Rattle.std.proofs.Common.{◌∙◌, ap}
 use Rattle.repo_api.specs.Kinds.{kind_of}
-use Rattle.drive_reports.specs.Targets.{client_entries}
+use Rattle.reporter.specs.Targets.{client_entries}
 use Rattle.drive_sides.specs.Plans.{whole}
 use Rattle.drive_sides.proofs.Knowing.{counted_child}
 use Rattle.drive_sides.proofs.two_trees.TwoTrees.counted_kind.Goals as goal

@@ -1,6 +1,6 @@
 use Rattle.std.proofs.Common.{◌∙◌, ◌++◌, ◌∷◌, [], ap}
 use Rattle.drive_rules.specs.Scopes.{own_or_inherited}
-use Rattle.drive_reports.specs.Targets.{depth_inherited, drive_limit}
+use Rattle.reporter.specs.Targets.{depth_inherited, drive_limit}
 use Rattle.drive_sides.specs.Plans.{whole}
 use Rattle.drive_sides.proofs.Deep.{at_the_end, deeper}
 use Rattle.drive_sides.proofs.two_trees.TwoTrees.depth_at.Goals as goal

@@ -1,6 +1,6 @@
 use Rattle.std.proofs.Common.{drop}
-use Rattle.reporter.specs.Knowing.{IsKnown}
-use Rattle.drive_reports.specs.Targets.{depth_inherited, drive_limit}
+use Rattle.drive_visits.specs.Knowing.{IsKnown}
+use Rattle.reporter.specs.Targets.{depth_inherited, drive_limit}
 use Rattle.drive_sides.specs.{Known.IsKnownOf, Plans.whole}
 use Rattle.drive_sides.proofs.Deep.{IsSoDeep}
 use Rattle.drive_sides.proofs.two_trees.TwoTrees.depth_at.Given as goal

@@ -1,8 +1,7 @@
 use Rattle.std.proofs.Common.{sym, subst, ◌∙◌}
 use Rattle.std.specs.Prelude.{IfOk}
-use Rattle.drive_wire.specs.Sent.{counts_changes}
+use Rattle.reporter.specs.{Sent.counts_changes, Targets.{new_tree, target_entries}}
 use Rattle.drive_news.specs.Places.{Compares, entry_had}
-use Rattle.drive_reports.specs.Targets.{new_tree, target_entries}
 use Rattle.drive_sides.specs.{Known.IsHadAt, Plans.whole}
 use Rattle.drive_sides.proofs.Comparing.{new_known, old_known}
 use Rattle.drive_sides.proofs.two_trees.TwoTrees.differs.Goals as goal

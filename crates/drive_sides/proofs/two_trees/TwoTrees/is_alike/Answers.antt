@@ -1,5 +1,5 @@
 use Rattle.std.proofs.{Common.{rules, sym, subst, ◌∙◌}, lemmas.Result.IfOk-weaker}
-use Rattle.drive_reports.specs.Places.{AllHoldTogether}
+use Rattle.reporter.specs.Places.{AllHoldTogether}
 use Rattle.drive_sides.specs.{Lines.IsAllKept, Plans.whole}
 use Rattle.drive_sides.proofs.SameBeneath.{alike}
 use Rattle.drive_sides.proofs.two_trees.TwoTrees.is_alike.Goals as goal

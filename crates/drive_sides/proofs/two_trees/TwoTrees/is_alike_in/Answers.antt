@@ -1,11 +1,10 @@
 use Rattle.std.proofs.{Common.{◌∷◌, ◌++◌, [], rules, subst, sym, ◌∙◌}, lemmas.Result.IfOk-weaker}
 use Rattle.history.specs.Logs.{place_at}
 use Rattle.repo_api.specs.Readings.{IsSameAt}
-use Rattle.reporter.specs.Walks.{AreAlike}
-use Rattle.drive_reports.specs.Places.{AllHoldTogether}
+use Rattle.drive_visits.specs.Walks.{AreAlike}
+use Rattle.reporter.specs.Places.{AllHoldTogether}
 use Rattle.drive_sides.specs.{Lines.KeepsLines, Plans.{drive_trees, whole}}
-use Rattle.drive_sides.proofs.Knowing.{rebased_child}
-use Rattle.drive_sides.proofs.{SameBeneath.{alike_in_pair, pair_beside}, Ungrafted.none_at}
+use Rattle.drive_sides.proofs.{Knowing.rebased_child, SameBeneath.{alike_in_pair, pair_beside}, Ungrafted.none_at}
 use Rattle.drive_sides.proofs.two_trees.TwoTrees.is_alike_in.Goals as goal
 
 pub returns : goal.returns

@@ -1,6 +1,6 @@
 use Rattle.std.proofs.{Common.{ap, sym, ◌∙◌, ◌&&◌}, lemmas.Result.IfOk-weaker}
 use Rattle.std.specs.Prelude.{is_some}
-use Rattle.drive_reports.specs.{Aims.aim_at, Links.is_excluded_at}
+use Rattle.reporter.specs.{Aims.aim_at, Links.is_excluded_at}
 use Rattle.drive_sides.specs.Plans.{whole}
 use Rattle.drive_sides.proofs.{Knowing.counts_child, Reaching.{was_false, was_true}}
 use Rattle.drive_sides.proofs.two_trees.TwoTrees.is_hidden.Goals as goal

@@ -1,6 +1,6 @@
 use Rattle.std.proofs.Common.{ap, subst, sym, ◌∙◌, ◌&&◌, false}
 use Rattle.std.specs.Option.{option_map_or}
-use Rattle.drive_reports.specs.{Aims.aim_at, Targets.{client_tree, is_written_anew}}
+use Rattle.reporter.specs.{Aims.aim_at, Targets.{client_tree, is_written_anew}}
 use Rattle.drive_sides.specs.{Known.IsHadAt, Plans.whole}
 use Rattle.drive_sides.proofs.Knowing.{anew_at}
 use Rattle.drive_sides.proofs.two_trees.TwoTrees.is_to_be_opened.Goals as goal

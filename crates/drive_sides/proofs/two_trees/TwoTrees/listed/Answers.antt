@@ -1,7 +1,7 @@
 use Rattle.std.proofs.Common.{◌||◌, rules, sym, ap, subst, ◌∙◌}
-use Rattle.reporter.specs.Walks.{IsListed}
-use Rattle.reporter.proofs.Children.{children_all, children_are}
-use Rattle.drive_reports.specs.{Places.AllHoldTogether, Targets.{new_tree, old_tree}}
+use Rattle.drive_visits.specs.Walks.{IsListed}
+use Rattle.drive_visits.proofs.Children.{children_all, children_are}
+use Rattle.reporter.specs.{Places.AllHoldTogether, Targets.{new_tree, old_tree}}
 use Rattle.repo_api.specs.Readings.{is_name_among}
 use Rattle.drive_sides.specs.{Names.{ArePut, graft_names}, Plans.{drive_trees, whole}}
 use Rattle.drive_sides.proofs.Listing.{if_ok_both, new_named, old_named}

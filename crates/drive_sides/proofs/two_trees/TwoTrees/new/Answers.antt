@@ -1,4 +1,4 @@
-use Rattle.drive_reports.proofs.Deciding.{all_trees_hold}
+use Rattle.reporter.proofs.Deciding.{all_trees_hold}
 use Rattle.drive_sides.proofs.two_trees.TwoTrees.new.Goals as goal
 
 pub invariant_of-result : goal.invariant_of-result

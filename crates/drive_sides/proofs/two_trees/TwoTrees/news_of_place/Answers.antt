@@ -1,7 +1,7 @@
 use Rattle.std.proofs.Common.{◌≡◌, option_map, sym, subst}
 use Rattle.std.specs.Prelude.{IfOk}
 use Rattle.drive_news.specs.News.{news_at, news_of}
-use Rattle.drive_reports.specs.Targets.{new_tree, stale_in}
+use Rattle.reporter.specs.Targets.{new_tree, stale_in}
 use Rattle.drive_sides.specs.{Known.IsHadAt, Plans.whole}
 use Rattle.drive_sides.proofs.Comparing.{none_known, old_known}
 use Rattle.drive_sides.proofs.two_trees.TwoTrees.news_of_place.Goals as goal

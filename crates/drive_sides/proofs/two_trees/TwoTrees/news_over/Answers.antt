@@ -1,7 +1,7 @@
 use Rattle.std.proofs.Common.{◌≡◌, ◌&&◌, option_map, sym, ap, subst, ◌∙◌}
 use Rattle.std.specs.Prelude.{IfOk, option_and_then}
 use Rattle.drive_news.specs.{News.news_of, Places.entry_had}
-use Rattle.drive_reports.specs.Targets.{is_stale, new_tree, target_entries}
+use Rattle.reporter.specs.Targets.{is_stale, new_tree, target_entries}
 use Rattle.drive_sides.specs.Plans.{whole}
 use Rattle.drive_sides.proofs.Comparing.{new_known}
 use Rattle.drive_sides.proofs.two_trees.TwoTrees.news_over.Goals as goal

@@ -1,5 +1,5 @@
 use Rattle.std.proofs.Common.{rules, sym, ◌∙◌}
-use Rattle.drive_reports.specs.Places.{AllHoldTogether}
+use Rattle.reporter.specs.Places.{AllHoldTogether}
 use Rattle.drive_sides.specs.Plans.{whole}
 use Rattle.drive_sides.proofs.SameBeneath.{pair_given}
 use Rattle.drive_sides.proofs.two_trees.TwoTrees.pair_at.Goals as goal

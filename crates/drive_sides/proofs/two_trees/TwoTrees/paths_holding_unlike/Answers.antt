@@ -1,6 +1,6 @@
 use Rattle.std.proofs.Common.{rules, subst, sym}
 use Rattle.repo_api.specs.Readings.{is_name_among}
-use Rattle.drive_reports.specs.Places.{AllHoldTogether}
+use Rattle.reporter.specs.Places.{AllHoldTogether}
 use Rattle.drive_sides.specs.{Pairs.HasNoGraft, Plans.{drive_trees, whole}, Unlike.HoldUnlike}
 use Rattle.drive_sides.proofs.{Listing.if_ok_both, UnlikeNames.{held_by_names, not_before}}
 use Rattle.drive_sides.proofs.two_trees.TwoTrees.paths_holding_unlike.Goals as goal

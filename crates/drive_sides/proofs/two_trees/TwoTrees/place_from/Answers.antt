@@ -1,11 +1,11 @@
 use Rattle.std.proofs.Common.{◌≡◌, ◌&&◌, sym, ap, ◌∙◌, refl}
 use Rattle.std.specs.Prelude.{option_copied}
 use Rattle.repo_api.specs.States.{trees_in}
-use Rattle.drive_reports.specs.{Aims.aim_of, Targets.client_entries}
+use Rattle.reporter.specs.{Aims.aim_of, Targets.client_entries}
 use Rattle.drive_sides.specs.Plans.{whole}
 use Rattle.drive_sides.proofs.Knowing.{goal_led, goes_led, kind_led, stays_led}
-use Rattle.drive_sides.proofs.two_trees.TwoTrees.place_from.Goals as goal
 use Rattle.drive_sides.proofs.two_trees.TwoTrees.place_from.Goals.{then-are_of_one_kind+in_ok-stays, else-are_of_one_kind}
+use Rattle.drive_sides.proofs.two_trees.TwoTrees.place_from.Goals as goal
 
 pub returns : goal.returns
 returns g c =

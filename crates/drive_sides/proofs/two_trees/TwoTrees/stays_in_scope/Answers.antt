@@ -1,6 +1,6 @@
 use Rattle.std.proofs.Common.{◌∙◌, ◌++◌, ◌∷◌, [], ap}
 use Rattle.drive_rules.specs.Scopes.{own_or_inherited}
-use Rattle.drive_reports.specs.Targets.{counted_entries, depth_inherited, drive_limit, is_hidden, target_entries}
+use Rattle.reporter.specs.Targets.{counted_entries, depth_inherited, drive_limit, is_hidden, target_entries}
 use Rattle.drive_sides.specs.Plans.{whole}
 use Rattle.drive_sides.proofs.Reaching.{hidden_stops, stops, goes_on, ends}
 use Rattle.drive_sides.proofs.two_trees.TwoTrees.stays_in_scope.Goals as goal

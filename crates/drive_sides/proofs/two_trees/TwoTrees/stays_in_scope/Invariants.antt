@@ -1,7 +1,7 @@
 -- So far nothing has left the scope, and what is known of the path is so.
 use Rattle.std.proofs.Common.{drop}
-use Rattle.reporter.specs.Knowing.{IsKnown}
-use Rattle.drive_reports.specs.Targets.{counted_entries, depth_inherited, drive_limit, is_hidden, target_entries}
+use Rattle.drive_visits.specs.Knowing.{IsKnown}
+use Rattle.reporter.specs.Targets.{counted_entries, depth_inherited, drive_limit, is_hidden, target_entries}
 use Rattle.drive_sides.specs.{Known.IsKnownOf, Plans.whole}
 use Rattle.drive_sides.proofs.Reaching.{IsSoFar}
 use Rattle.drive_sides.proofs.two_trees.TwoTrees.stays_in_scope.Given as goal

@@ -1,7 +1,7 @@
 use Rattle.std.proofs.Common.{ap, ◌∙◌, inl, inr, ⊎_elim}
 use Rattle.drive_rules.proofs.Joined.{or_right}
 use Rattle.repo_api.specs.Readings.{is_name_among, names_at}
-use Rattle.drive_sides.specs.{Plans.whole}
+use Rattle.drive_sides.specs.Plans.{whole}
 use Rattle.drive_sides.proofs.Listing.{among_target}
 use Rattle.drive_sides.proofs.two_trees.TwoTrees.target_names.Goals as goal
 

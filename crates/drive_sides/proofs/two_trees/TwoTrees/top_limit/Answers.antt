@@ -1,7 +1,7 @@
 use Rattle.std.proofs.Common.{◌≡◌, Option, Some, None, refl, sym, ap, ◌∙◌}
 use Rattle.svnpath.specs.Paths.{PathValue}
 use Rattle.drive_rules.specs.{Scopes.top_limit, Scopes.DepthLimit.Reported, declared.depth.Depth.Depth}
-use Rattle.drive_reports.specs.Targets.{depth_kept, first_depth, limit_of}
+use Rattle.reporter.specs.Targets.{depth_kept, first_depth, limit_of}
 use Rattle.drive_sides.specs.Plans.{whole}
 use Rattle.drive_sides.proofs.two_trees.TwoTrees.top_limit.Goals as goal
 

@@ -1,8 +1,8 @@
 use Rattle.std.proofs.Common.{true, sym, ap, subst, ◌∙◌}
 use Rattle.std.specs.Prelude.{IfOk}
 use Rattle.svnpath.specs.PathLaws.{under_itself}
-use Rattle.drive_reports.specs.Aims.{aim_of}
-use Rattle.drive_reports.proofs.Aiming.{aim_target}
+use Rattle.reporter.specs.Aims.{aim_of}
+use Rattle.reporter.proofs.Aiming.{aim_target}
 use Rattle.drive_sides.specs.{Known.IsLedFrom, Plans.whole, declared.leading.Holder.Holder}
 use Rattle.drive_sides.proofs.Knowing.{known_by}
 use Rattle.drive_sides.proofs.two_trees.TwoTrees.top_place.Goals as goal

@@ -1,7 +1,7 @@
 use Rattle.std.proofs.{lemmas.List.Elements.{All-head, All-nil, All-tail}, lemmas.List.append-nil, Common.{rules, ◌∷◌, ◌++◌, [], subst, sym}}
 use Rattle.std.specs.Prelude.{All}
-use Rattle.reporter.proofs.Knowing.{push_known}
-use Rattle.reporter.specs.{Knowing.{AreKnown, IsKnown, paths_of}, Walks.{IsChild, LeavesUnlike}}
+use Rattle.drive_visits.proofs.Knowing.{push_known}
+use Rattle.drive_visits.specs.{Knowing.{AreKnown, IsKnown, paths_of}, Walks.{IsChild, LeavesUnlike}}
 use Rattle.drive_sides.specs.{Known.IsKnownOf, Plans.{drive_trees, whole}}
 use Rattle.drive_sides.proofs.Knowing.{next_in, next_out, none_out, paths_more}
 use Rattle.drive_sides.proofs.two_trees.TwoTrees.unlike_places.Goals as goal

@@ -2,7 +2,7 @@
 use Rattle.std.proofs.Common.{List, ◌++◌, length}
 use Rattle.std.specs.Prelude.{All}
 use Rattle.svnpath.specs.Paths.{PathValue}
-use Rattle.reporter.specs.{Knowing.{AreKnown, paths_of}, Walks.{IsChild, LeavesUnlike}}
+use Rattle.drive_visits.specs.{Knowing.{AreKnown, paths_of}, Walks.{IsChild, LeavesUnlike}}
 use Rattle.drive_sides.specs.{Known.IsKnownOf, Plans.{drive_trees, whole}}
 use Rattle.drive_sides.proofs.two_trees.TwoTrees.unlike_places.Given as goal
 

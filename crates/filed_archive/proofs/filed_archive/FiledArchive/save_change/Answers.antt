@@ -1,5 +1,5 @@
 use Rattle.std.proofs.Common.{◌∙◌, ap, refl, Bool}
-use Rattle.store_access.proofs.Stops.{kept_next, kept_still}
+use Rattle.stored_repository.proofs.Stops.{kept_next, kept_still}
 use Rattle.filed_archive.specs.Writing.{told_as, written}
 use Rattle.filed_archive.proofs.Leaving.{save_done, save_failed, leaves}
 use Rattle.filed_archive.proofs.filed_archive.FiledArchive.save_change.Goals as goal

@@ -1,4 +1,4 @@
-use Rattle.store_access.proofs.Stops.{stored_stands}
+use Rattle.stored_repository.proofs.Stops.{stored_stands}
 use Rattle.filed_archive.proofs.filed_archive.FiledArchive.store.Goals as goal
 
 pub returns-clause-stands : goal.returns-clause-stands

@@ -1,7 +1,7 @@
 use Rattle.std.proofs.Common.{rules, ◌≡◌, ◌+◌, ◌++◌, ◌∷◌, [], length, map, Some, option_map, sym, ap, subst, ◌∙◌, arith, length-append, Err, take, Vec, Global}
 use Rattle.std.proofs.{lemmas.List.{length-map, take_all}, lemmas.Option.{slice_get-get_or, slice_get-map}, lemmas.List.Elements.{All-more, All-same}}
 use Rattle.std.specs.{Borrow.Bor, Prelude.All}
-use Rattle.fsfs_reading.specs.declared.piece.FilePiece.{FilePiece}
+use Rattle.fsfs.specs.declared.piece.FilePiece.{FilePiece}
 use Rattle.filed_trees.specs.{Tables.placed_of, Comparing.{AreReadFrom, IsOfLast, revision_in, tables_of, HaveHeights}}
 use Rattle.filed_trees.specs.Readable.{IsReadable, IsTabled, ReadsWhere}
 use Rattle.noderevs.specs.{declared.node_rev.NodeRev.NodeRev, Heights.IsHeight, Held.node_at, Nodes.with_block}

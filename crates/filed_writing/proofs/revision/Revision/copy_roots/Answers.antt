@@ -1,8 +1,7 @@
 use Rattle.std.proofs.Common.{◌≡◌, ◌+◌, ◌-◌, ◌++◌, ◌∷◌, [], ℕ, List, Option, Some, map, reverse, length, arith, rules, ap, sym, subst, ◌∙◌}
 use Rattle.std.proofs.lemmas.List.{length_push}
 use Rattle.std.specs.Prelude.{option_and_then, option_copied, option_map}
-use Rattle.filed_writing.specs.{Drafts.{copy_from}, Layout.{known_from, node_here, place_above}, Pieces.{Copy}, Trails.here_at}
-use Rattle.filed_writing.specs.declared.copies.CopyRoot.{CopyRoot}
+use Rattle.filed_writing.specs.{Drafts.copy_from, Layout.{known_from, node_here, place_above}, Pieces.Copy, Trails.here_at, declared.copies.CopyRoot.CopyRoot}
 use Rattle.filed_writing.proofs.Roots.{none_yet, one_copy}
 use Rattle.filed_writing.proofs.revision.Revision.copy_roots.Goals as goal
 

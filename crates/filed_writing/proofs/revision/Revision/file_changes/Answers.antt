@@ -1,6 +1,6 @@
 use Rattle.std.proofs.Common.{◌≡◌, List, Some, ap, sym, ◌∙◌}
 use Rattle.std.specs.{Map.Iter.deref_pair, Prelude.{option_and_then, option_map}}
-use Rattle.fsfs_parts.specs.declared.change.FileChange.{FileChange}
+use Rattle.fsfs_nodes.specs.declared.change.FileChange.{FileChange}
 use Rattle.filed_writing.specs.{Layout.{change_of, changed_id, file_id}, Pieces.file_change, Trails.here_at}
 use Rattle.filed_writing.proofs.Pieces.{seen_more}
 use Rattle.filed_writing.proofs.revision.Revision.file_changes.Goals as goal

@@ -1,5 +1,4 @@
-use Rattle.std.proofs.Common.{◌≡◌, All, List, true, arith, refl, rules, subst}
-use Rattle.std.proofs.lemmas.{List.take_all, List.Elements.All-more}
+use Rattle.std.proofs.{Common.{◌≡◌, All, List, true, arith, refl, rules, subst}, lemmas.List.take_all, lemmas.List.Elements.All-more}
 use Rattle.repo_api.specs.Histories.{Changed}
 use Rattle.filed_writing.proofs.Keeping.{Keeps, all_keep}
 use Rattle.filed_writing.proofs.revision.Revision.has_right_changes.Goals as goal

@@ -1,5 +1,4 @@
-use Rattle.std.proofs.Common.{◌≡◌, ◌++◌, ◌∷◌, [], List, Some, None, true, map, length, ap, sym, arith, rules, ◌∙◌}
-use Rattle.std.proofs.lemmas.List.{append-nil}
+use Rattle.std.proofs.{Common.{◌≡◌, ◌++◌, ◌∷◌, [], List, Some, None, true, map, length, ap, sym, arith, rules, ◌∙◌}, lemmas.List.append-nil}
 use Rattle.noderevs.specs.declared.node_rev.NodeRev.{NodeRev}
 use Rattle.filed_writing.specs.{Drafts.comes_of, Layout.{all_come, next_after_all, node_here}}
 use Rattle.filed_writing.proofs.Places.{all_right, left, one_comes, one_later, one_right, past_all}

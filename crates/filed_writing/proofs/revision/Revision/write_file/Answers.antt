@@ -1,12 +1,12 @@
-use Rattle.std.proofs.Common.{◌≡◌, ◌-◌, ◌++◌, [], ℕ, List, Some, true, map, reverse, length, rules, ap, sym, subst, ◌∙◌}
-use Rattle.std.proofs.lemmas.List.{length-map}
+use Rattle.std.proofs.{Common.{◌≡◌, ◌-◌, ◌++◌, [], ℕ, List, Some, true, map, reverse, length, rules, ap, sym, subst, ◌∙◌}, lemmas.List.length-map}
 use Rattle.std.specs.Prelude.{option_map, slice_get}
-use Rattle.filed_writing.specs.{declared.copies.Origin.Origin, declared.counter.Counter.Counter}
-use Rattle.fsfs_ids.specs.declared.id.FileId.{FileId}
+use Rattle.filed_writing.specs.{declared.copies.Origin.Origin, declared.counter.Counter.Counter, Drafts.{comes_of, copy_from}}
+use Rattle.filed_writing.specs.Layout.{ListsChanges, all_come, copies_of, next_after_all, nodes_of, pieces_of}
+use Rattle.filed_writing.specs.Pieces.{counter_in, ids_after, ids_of, rows_of}
+use Rattle.fsfs_text.specs.declared.id.FileId.{FileId}
 use Rattle.filed_trees.specs.declared.placed.Placed.{Placed}
-use Rattle.fsfs_parts.specs.{Changes.changes_bytes, Trailers.trailer_bytes}
-use Rattle.fsfs_writing.specs.Files.{Piece}
-use Rattle.filed_writing.specs.{Drafts.{comes_of, copy_from}, Layout.{ListsChanges, all_come, copies_of, next_after_all, nodes_of, pieces_of}, Pieces.{counter_in, ids_after, ids_of, rows_of}}
+use Rattle.fsfs_nodes.specs.{Changes.changes_bytes, Trailers.trailer_bytes}
+use Rattle.fsfs.specs.Files.{Piece}
 use Rattle.filed_writing.proofs.revision.Revision.write_file.Goals as goal
 
 pub returns : goal.returns

@@ -1,5 +1,5 @@
 use Rattle.std.proofs.Common.{◌≡◌, ◌++◌, ◌∷◌, [], List, Some, map, reverse, refl, ap, arith, rules, sym, subst, ◌∙◌}
-use Rattle.fsfs_ids.specs.declared.id.FileId.{FileId}
+use Rattle.fsfs_text.specs.declared.id.FileId.{FileId}
 use Rattle.filed_trees.specs.{Tables.placed_of, declared.placed.Placed.Placed}
 use Rattle.filed_writing.specs.{Drafts.{comes_of, copy_from}, Layout.{WritesNode, node_here}}
 use Rattle.filed_writing.proofs.Behind.{all_written, one_piece}

@@ -1,7 +1,7 @@
 use Rattle.std.proofs.Common.{◌≡◌, ◌++◌, length, ap, ◌∙◌, rules}
-use Rattle.std.specs.{Prelude.{option_map}, Arc.arc_value}
+use Rattle.std.specs.{Prelude.option_map, Arc.arc_value}
 use Rattle.fsfs_nodes.specs.declared.node.FileNode.{FileNode}
-use Rattle.fsfs_writing.specs.Files.{Piece, piece_bytes}
+use Rattle.fsfs.specs.Files.{Piece, piece_bytes}
 use Rattle.filed_writing.specs.{Bodies.{before_of, brought_by}, Drafts.{came_from, comes_of, copy_from}, Layout.{lines_of, piece_of}}
 use Rattle.filed_writing.specs.Pieces.{Before, brings, dump_before, piece_by, properties_dump, properties_kept, properties_of}
 use Rattle.filed_writing.proofs.Pieces.{if_ok, pair_lines}

@@ -1,7 +1,7 @@
 use Rattle.std.proofs.Common.{ap, sym, ◌∙◌}
 use Rattle.std.specs.Prelude.{option_and_then}
 use Rattle.noderevs.specs.{Held.node_at, Nodes.kid_at}
-use Rattle.filed_writing.specs.{Origins.{deleted_at, predecessor_of}}
+use Rattle.filed_writing.specs.Origins.{deleted_at, predecessor_of}
 use Rattle.filed_writing.proofs.Pieces.{name_last}
 use Rattle.filed_writing.proofs.trail.Trail.deleted_at.Goals as goal
 

@@ -1,13 +1,12 @@
-use Rattle.std.proofs.Common.{◌≡◌, ◌<◌, suc, [], List, length, take, Option, None, get_or, sym, ap, arith, ◌∙◌}
-use Rattle.std.proofs.{lemmas.List.get_or_default, lemmas.Option.slice_get-get_or}
+use Rattle.std.proofs.{Common.{◌≡◌, ◌<◌, suc, [], List, length, take, Option, None, get_or, sym, ap, arith, ◌∙◌}, lemmas.List.get_or_default}
+use Rattle.std.proofs.lemmas.Option.{slice_get-get_or}
 use Rattle.svnpath.specs.Paths.{Component, PathValue}
 use Rattle.repo_api.specs.Histories.{Changed}
 use Rattle.revision_data.specs.Found.{found}
 use Rattle.noderevs.specs.{Held.node_at, Nodes.kid_at, declared.node_rev.NodeId.NodeId}
 use Rattle.filed_writing.specs.{Origins.{put_by, root_before}, Trails.made_at}
-use Rattle.filed_writing.proofs.Coming.{made_next}
+use Rattle.filed_writing.proofs.{Coming.made_next, trail.Trail.next.Goals.{in-Some, in-None}}
 use Rattle.filed_writing.proofs.trail.Trail.next.Goals as goal
-use Rattle.filed_writing.proofs.trail.Trail.next.Goals.{in-Some, in-None}
 
 pub returns : goal.returns
 returns c =

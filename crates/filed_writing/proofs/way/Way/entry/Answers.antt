@@ -1,5 +1,5 @@
-use Rattle.std.proofs.Common.{◌≡◌, [], List, length, Option, None, get_or, sym, refl, ◌∙◌}
-use Rattle.std.proofs.{lemmas.List.get_or_default, lemmas.Option.{get_or_from_slice_get, slice_get_read}}
+use Rattle.std.proofs.{Common.{◌≡◌, [], List, length, Option, None, get_or, sym, refl, ◌∙◌}, lemmas.List.get_or_default}
+use Rattle.std.proofs.lemmas.Option.{get_or_from_slice_get, slice_get_read}
 use Rattle.svnpath.specs.Paths.{PathValue}
 use Rattle.noderevs.specs.{Held.node_at, Nodes.kid_at, declared.node_rev.NodeId.NodeId}
 use Rattle.filed_writing.proofs.way.Way.entry.Goals as goal

@@ -1,9 +1,9 @@
-use Rattle.std.proofs.Common.{◌≡◌, ◌<◌, ◌+◌, ◌++◌, ◌∷◌, [], List, length, take, Option, Some, slice_get, ap, subst, arith, refl, ◌∙◌}
-use Rattle.std.proofs.{Math.Seq.take-length, lemmas.List.length-append, lemmas.Option.slice_get_read}
+use Rattle.std.proofs.{Common.{◌≡◌, ◌<◌, ◌+◌, ◌++◌, ◌∷◌, [], List, length, take, Option, Some, slice_get, ap, subst, arith, refl, ◌∙◌}, Math.Seq.take-length}
+use Rattle.std.proofs.{lemmas.List.length-append, lemmas.Option.slice_get_read}
 use Rattle.svnpath.specs.Paths.{PathValue}
 use Rattle.noderevs.specs.declared.node_rev.NodeId.{NodeId}
 use Rattle.filed_writing.specs.Trails.{here_at}
-use Rattle.next_blocks.proofs.Steps.{one_more}
+use Rattle.block_rules.proofs.Steps.{one_more}
 use Rattle.filed_writing.proofs.way.Way.find.Goals as goal
 
 pub loop-self-init : goal.loop-self-init

@@ -1,5 +1,5 @@
-use Rattle.std.proofs.Common.{◌≡◌, ◌<◌, suc, [], List, length, take, Option, None, get_or, sym, ap, arith, ◌∙◌}
-use Rattle.std.proofs.{lemmas.List.get_or_default, lemmas.Option.slice_get-get_or}
+use Rattle.std.proofs.{Common.{◌≡◌, ◌<◌, suc, [], List, length, take, Option, None, get_or, sym, ap, arith, ◌∙◌}, lemmas.List.get_or_default}
+use Rattle.std.proofs.lemmas.Option.{slice_get-get_or}
 use Rattle.svnpath.specs.Paths.{Component, PathValue}
 use Rattle.noderevs.specs.{Held.node_at, Nodes.kid_at, declared.node_rev.NodeId.NodeId}
 use Rattle.filed_writing.specs.Trails.{here_at}

@@ -1,5 +1,5 @@
 use Rattle.std.proofs.Common.{◌≡◌, Some, slice_get, subst, ap, arith, ◌∙◌}
-use Rattle.next_blocks.proofs.Steps.{kept_front, shared_front}
+use Rattle.block_rules.proofs.Steps.{kept_front, shared_front}
 use Rattle.filed_writing.proofs.way.Way.turn_to.Goals as goal
 
 pub returns-clause-known : goal.returns-clause-known

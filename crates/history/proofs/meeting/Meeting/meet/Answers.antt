@@ -1,5 +1,4 @@
-use Rattle.std.proofs.Common.{◌≡◌, ◌∷◌, ◌++◌, [], Some, sym, ◌∙◌, subst}
-use Rattle.std.proofs.lemmas.List.Elements.{All-push, All-same}
+use Rattle.std.proofs.{Common.{◌≡◌, ◌∷◌, ◌++◌, [], Some, sym, ◌∙◌, subst}, lemmas.List.Elements.{All-push, All-same}}
 use Rattle.history.specs.{Locations.location_on, Logs.place_at, Meeting.IsTraceOf}
 use Rattle.history.proofs.Together.{placed, same_where_met}
 use Rattle.history.proofs.meeting.Meeting.meet.Goals as goal

@@ -1,5 +1,4 @@
-use Rattle.std.proofs.Common.{◌≡◌, ◌++◌, ◌∷◌, [], sym, ◌∙◌}
-use Rattle.std.proofs.lemmas.List.Elements.{All-same}
+use Rattle.std.proofs.{Common.{◌≡◌, ◌++◌, ◌∷◌, [], sym, ◌∙◌}, lemmas.List.Elements.All-same}
 use Rattle.history.specs.Locations.{location_on}
 use Rattle.history.proofs.{Along.known_more, Together.all_parts}
 use Rattle.history.proofs.meeting.Meeting.paths.Goals as goal

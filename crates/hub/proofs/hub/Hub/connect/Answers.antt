@@ -1,8 +1,8 @@
 use Rattle.std.proofs.Common.{◌≡◌, false, List, [], ◌∷◌, ◌++◌, ℕ, refl, sym, ap, subst, ◌∙◌}
 use Rattle.wire_replies.specs.declared.reply.Reply.TheVariants.{Greeting}
 use Rattle.machine.specs.Stages.{SessionState}
-use Rattle.hub_runs.specs.{Runs.new_session, State.{hub_at, HubState}}
-use Rattle.hub_runs.proofs.Everywhere.{AllOpen-push, HasTrees-push}
+use Rattle.hub.specs.{Runs.new_session, State.{hub_at, HubState}}
+use Rattle.hub.proofs.Everywhere.{AllOpen-push, HasTrees-push}
 use Rattle.hub.proofs.hub.Hub.connect.Goals as goal
 
 pub invariant_of-self : goal.invariant_of-self

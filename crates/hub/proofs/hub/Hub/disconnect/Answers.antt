@@ -1,7 +1,7 @@
 use Rattle.std.proofs.Common.{ℕ, List, refl, ap, ◌∙◌}
 use Rattle.machine.specs.Stages.{SessionState}
-use Rattle.hub_runs.specs.State.{hub_at, HubState, without}
-use Rattle.hub_runs.proofs.Everywhere.{AllOpen-without, HasTrees-without}
+use Rattle.hub.specs.State.{hub_at, HubState, without}
+use Rattle.hub.proofs.Everywhere.{AllOpen-without, HasTrees-without}
 use Rattle.hub.proofs.hub.Hub.disconnect.Goals as goal
 
 pub invariant_of-self : goal.invariant_of-self

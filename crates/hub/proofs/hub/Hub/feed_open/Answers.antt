@@ -1,7 +1,7 @@
 use Rattle.std.proofs.Common.{arith}
-use Rattle.hub_runs.specs.State.{hub_at}
-use Rattle.hub.proofs.Feeding.{Feed, IsFed, finds_here, is_entry, entry_rests, is_fed, fed_feeds, lost_breaks, fed_holds}
-use Rattle.hub.proofs.{hub.Hub.feed_open.Given.Over, hub.Hub.feed_open.Goals.{in-Ok, in-Err}}
+use Rattle.hub.specs.State.{hub_at}
+use Rattle.hub.proofs.{Feeding.{Feed, IsFed, finds_here, is_entry, entry_rests, is_fed, fed_feeds, lost_breaks, fed_holds}, hub.Hub.feed_open.Given.Over}
+use Rattle.hub.proofs.hub.Hub.feed_open.Goals.{in-Ok, in-Err}
 use Rattle.hub.proofs.hub.Hub.feed_open.Goals as goal
 
 pub index_mut-entry-requires : goal.index_mut-entry-requires

@@ -1,6 +1,6 @@
 use Rattle.std.proofs.Common.{◌≡◌, ℕ, List, None, true, false, refl, sym, subst, ◌∙◌}
 use Rattle.machine.specs.Stages.{SessionState}
-use Rattle.hub_runs.specs.State.{Finds, HubState, session_of}
+use Rattle.hub.specs.State.{Finds, HubState, session_of}
 use Rattle.hub.proofs.hub.Hub.feed_to.Goals as goal
 
 pub returns-then-is_halted-clause-fed : goal.returns-then-is_halted-clause-fed

@@ -1,5 +1,5 @@
 use Rattle.std.proofs.Common.{◌≡◌, refl, subst}
-use Rattle.hub_runs.specs.State.{hub_at, HubState}
+use Rattle.hub.specs.State.{hub_at, HubState}
 use Rattle.hub.proofs.hub.Hub.into_parts.Goals as goal
 
 pub returns : goal.returns

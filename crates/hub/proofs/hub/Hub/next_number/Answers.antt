@@ -1,6 +1,5 @@
 use Rattle.std.proofs.Common.{rules, ◌≡◌, ◌+◌, ◌<◌, length, refl, subst}
-use Rattle.hub_runs.specs.State.{HubState}
-use Rattle.hub.specs.declared.hub.TheConstants.{MAX_SESSIONS}
+use Rattle.hub.specs.{State.HubState, declared.hub.TheConstants.MAX_SESSIONS}
 use Rattle.hub.proofs.hub.Hub.next_number.Goals as goal
 
 pub returns : goal.returns

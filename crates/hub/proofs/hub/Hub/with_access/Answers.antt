@@ -1,6 +1,6 @@
 use Rattle.std.proofs.Common.{ℕ, List, ap, subst, sym}
 use Rattle.machine.specs.Stages.{SessionState}
-use Rattle.hub_runs.specs.State.{AllOpen, HasTrees, hub_at}
+use Rattle.hub.specs.State.{AllOpen, HasTrees, hub_at}
 use Rattle.hub.proofs.hub.Hub.with_access.Goals as goal
 
 pub returns : goal.returns

@@ -1,9 +1,11 @@
 use Rattle.std.proofs.Common.{◌≡◌, ℕ, ◌∷◌, ◌++◌, [], List, true, false, true≢false, Err, refl, ap, sym, subst, ◌∙◌}
-use Rattle.access.specs.{Changing.{IsFailure, IsHalt}, Points.{HasRisen}}
+use Rattle.access.specs.{Changing.{IsFailure, IsHalt}, Points.HasRisen}
 use Rattle.repo_api.specs.States.{RepoState}
-use Rattle.published.specs.{Changes.IsRight, Events.{Event, Known, accepted_by, knowing, point_of, state_of, told_in}, Events.Event.{Fails, Makes}, Files.{Agrees}, Moments.added}
+use Rattle.published.specs.{Changes.IsRight, Events.{Event, Known, accepted_by, knowing, point_of, state_of, told_in}, Events.Event.{Fails, Makes}}
+use Rattle.published.specs.{Files.Agrees, Moments.added}
 use Rattle.published.proofs.Histories.{next_state, state_more, state_still}
-use Rattle.archives.specs.{Archives.{IsNext, SaveLeaves}, Publishing.BothContain, declared.archive.SaveFault.SaveFault, declared.archive.SaveFault.TheVariants.{Device, Halted, NoMemory}}
+use Rattle.archives.specs.{Archives.{IsNext, SaveLeaves}, Publishing.BothContain, declared.archive.SaveFault.SaveFault}
+use Rattle.archives.specs.declared.archive.SaveFault.TheVariants.{Device, Halted, NoMemory}
 use Rattle.keepers.specs.Standing.{Standing, standing, IsSteady, StopLeaves, now_of}
 use Rattle.keepers.proofs.Keeping.{agrees_made, failed_steady, failure_told, halt_told, made_at, made_steady, running_now, still_steady}
 use Rattle.keepers.proofs.Stopping.{still, stop_left}

@@ -1,6 +1,6 @@
 use Rattle.std.proofs.Common.{◌≡◌, ◌<◌, ℕ, Option, sym, ap, subst, ◌∙◌, inl, arith, length}
 use Rattle.store_files.specs.{declared.name.FileName.FileName, declared.name.FileName.TheVariants.Properties}
-use Rattle.fsfs_format.specs.Formats.{layout_in, shard_in}
+use Rattle.fsfs_text.specs.Formats.{layout_in, shard_in}
 use Rattle.repostore.specs.{Files.{HasFiles, properties_name, with_properties, HasEither}, Saving.{IsWritten, Replaces}}
 use Rattle.repostore.proofs.{Reaching.{properties_are, properties_may_be, length-second}, Steps.{begun, swapped, swapped_now, replaced, ok_gives_both}}
 use Rattle.repostore.proofs.saves.Saves.save_rev_prop.Goals as goal

@@ -1,5 +1,5 @@
 use Rattle.std.proofs.Common.{◌≡◌, ◌≤◌, ℕ, Option, Some, sym, ap, ◌∙◌, arith, length}
-use Rattle.fsfs_format.specs.Formats.{layout_in, shard_in}
+use Rattle.fsfs_text.specs.Formats.{layout_in, shard_in}
 use Rattle.store_files.specs.{Folders.Folder, declared.name.FileName.TheVariants.{Revision, Properties}}
 use Rattle.repostore.specs.{Files.HasFiles, Saving.HasNext}
 use Rattle.repostore.proofs.{Reaching.{behind_revision, behind_properties, behind_properties_too, next_is}, Steps.{begun, wrote, with_bytes, ok_gives_both}}

@@ -1,6 +1,5 @@
 use Rattle.std.proofs.Common.{[], ◌∷◌, Err, sym, ap, ◌∙◌, subst}
-use Rattle.store_files.specs.{Moments.HasCause, Names.numbers_of, declared.fault.StoreFault.StoreFault}
-use Rattle.store_files.specs.Replay.{failed_in}
+use Rattle.store_files.specs.{Moments.HasCause, Names.numbers_of, declared.fault.StoreFault.StoreFault, Replay.failed_in}
 use Rattle.store_folder.proofs.Counting.{failed_call}
 use Rattle.store_folder.proofs.folder.FolderStoreStore.read.Goals as goal
 

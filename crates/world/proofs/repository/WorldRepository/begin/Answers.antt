@@ -3,7 +3,7 @@ use Rattle.svnpath.specs.Paths.{PathValue}
 use Rattle.repo_api.specs.{Edits.begun, States.youngest}
 use Rattle.noderevs.specs.Held.{node_at, root_at, trees_of}
 use Rattle.txntree.specs.Whole.{IsSound, txn_tree}
-use Rattle.held.specs.{Contents.{held_state, revisions_of}, declared.held.Held.Held}
+use Rattle.shared_revisions.specs.{Contents.{held_state, revisions_of}, declared.held.Held.Held}
 use Rattle.world.specs.Open.{IsOpen}
 use Rattle.world.proofs.{Lists.begins_itself, Opening.{begun_open, begun_txn}}
 use Rattle.world.proofs.repository.WorldRepository.begin.Goals as goal

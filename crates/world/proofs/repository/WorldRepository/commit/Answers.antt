@@ -2,7 +2,7 @@ use Rattle.std.proofs.Common.{rules, ◌≡◌}
 use Rattle.std.specs.Prelude.{None}
 use Rattle.repo_api.specs.Commits.{commit_refusal, committed}
 use Rattle.history_marks.specs.Sound.{IsSoundRepo}
-use Rattle.held.specs.{Contents.{held_state, state_of}, declared.held.Held.Held}
+use Rattle.shared_revisions.specs.{Contents.{held_state, state_of}, declared.held.Held.Held}
 use Rattle.world.specs.Whole.{txn_state_of}
 use Rattle.world.proofs.{Keeping.commit_keeps, Mapping.txn_sound}
 use Rattle.world.proofs.repository.WorldRepository.commit.Goals as goal

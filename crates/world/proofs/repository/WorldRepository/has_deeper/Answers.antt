@@ -1,6 +1,6 @@
 use Rattle.std.proofs.Common.{ap, ◌∙◌}
 use Rattle.repo_api.specs.Kinds.{has_deeper_at}
-use Rattle.held.specs.{Contents.held_state, declared.held.Held.Held}
+use Rattle.shared_revisions.specs.{Contents.held_state, declared.held.Held.Held}
 use Rattle.world.proofs.repository.WorldRepository.has_deeper.Goals as goal
 
 pub returns : goal.returns

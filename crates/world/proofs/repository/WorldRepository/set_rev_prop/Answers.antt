@@ -1,5 +1,5 @@
 use Rattle.std.proofs.{Common.{ap, ◌∙◌}, Math.Logic.∥∥₁_map}
-use Rattle.held.specs.Contents.{held_state, revisions_of}
+use Rattle.shared_revisions.specs.Contents.{held_state, revisions_of}
 use Rattle.world.proofs.Keeping.{same_revisions}
 use Rattle.world.proofs.repository.WorldRepository.set_rev_prop.Goals as goal
 

@@ -1,7 +1,7 @@
 use Rattle.std.proofs.Common.{sym, ap, ◌∙◌}
 use Rattle.repo_api.specs.Trees.{text_of}
 use Rattle.txntree.specs.Whole.{txn_tree}
-use Rattle.held.specs.declared.held.Held.{Held}
+use Rattle.shared_revisions.specs.declared.held.Held.{Held}
 use Rattle.world.proofs.Mapping.{txn_map_is}
 use Rattle.world.proofs.repository.WorldRepository.text_in.Goals as goal
 

@@ -1,6 +1,6 @@
 use Rattle.std.proofs.Common.{sym, ap, subst, ◌∙◌}
 use Rattle.history_marks.specs.Sound.{IsSoundRepo}
-use Rattle.held.specs.Contents.{held_state}
+use Rattle.shared_revisions.specs.Contents.{held_state}
 use Rattle.world.proofs.world.World.new.Goals as goal
 
 pub invariant_of-result : goal.invariant_of-result

@@ -1,5 +1,0 @@
-use Rattle.drive_reports.proofs.Deciding.{all_trees_hold}
-use Rattle.drive_reports.proofs.applying.set_path_graft.Goals as goal
-
-pub has_place-requires : goal.has_place-requires
-has_place-requires g c = all_trees_hold _ c.requires

@@ -1,5 +1,0 @@
-use Rattle.drive_reports.proofs.Drives.{both_hold}
-use Rattle.drive_reports.proofs.laws.drive_trees_hold_together.Goals as goal
-
-pub returns : goal.returns
-returns c = both_hold

@@ -1,5 +1,0 @@
-use Rattle.drive_reports.proofs.Deciding.{all_trees_hold}
-use Rattle.drive_reports.proofs.laws.revisions_hold_together.Goals as goal
-
-pub returns : goal.returns
-returns c = all_trees_hold

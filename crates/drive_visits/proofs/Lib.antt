@@ -1,0 +1,12 @@
+pub mod Nested
+pub mod Visiting
+pub mod Planning
+pub mod Owning
+pub mod Children
+pub mod Plans
+pub mod Reasons
+pub mod Leaving
+pub mod Existing
+pub mod Pairs
+pub mod Remembering
+pub mod Knowing

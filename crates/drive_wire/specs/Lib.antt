@@ -1,4 +1,0 @@
-pub mod Saying
-pub mod EntryProperties
-pub mod Sent
-pub mod Reporting

@@ -1,5 +1,0 @@
-use Rattle.filed_again.proofs.Changing.{changes_fit}
-use Rattle.filed_again.proofs.changes_can_be_written.Goals as goal
-
-pub returns : goal.returns
-returns c = λ r written changes named e. changes_fit r written changes named e

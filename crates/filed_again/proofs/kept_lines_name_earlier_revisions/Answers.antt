@@ -1,5 +1,0 @@
-use Rattle.filed_again.proofs.Older.{here_keep}
-use Rattle.filed_again.proofs.kept_lines_name_earlier_revisions.Goals as goal
-
-pub returns : goal.returns
-returns c = λ r ids pieces number earlier e. here_keep r ids pieces number earlier e

@@ -1,5 +1,0 @@
-use Rattle.filed_again.proofs.Made.{here_placed}
-use Rattle.filed_again.proofs.node_revisions_are_where_they_say.Goals as goal
-
-pub returns : goal.returns
-returns c = λ r ids pieces e. here_placed r ids pieces e

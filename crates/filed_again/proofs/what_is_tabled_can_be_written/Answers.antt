@@ -1,5 +1,0 @@
-use Rattle.filed_again.proofs.Said.{tabled_fit}
-use Rattle.filed_again.proofs.what_is_tabled_can_be_written.Goals as goal
-
-pub returns : goal.returns
-returns c = λ files blocks tables changes all. tabled_fit files blocks tables changes all

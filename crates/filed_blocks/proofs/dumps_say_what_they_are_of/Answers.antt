@@ -1,5 +1,0 @@
-use Rattle.filed_blocks.proofs.Dumps.{same_dump}
-use Rattle.filed_blocks.proofs.dumps_say_what_they_are_of.Goals as goal
-
-pub returns : goal.returns
-returns c = λ pairs others e. same_dump pairs others e

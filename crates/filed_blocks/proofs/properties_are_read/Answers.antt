@@ -1,5 +1,0 @@
-use Rattle.filed_blocks.proofs.Properties.{properties_again}
-use Rattle.filed_blocks.proofs.properties_are_read.Goals as goal
-
-pub returns : goal.returns
-returns c = λ list fit short. properties_again list fit short

@@ -1,6 +1,0 @@
-use Rattle.filed_blocks.proofs.Whole.{readable_again}
-use Rattle.filed_blocks.proofs.what_is_laid_out_can_be_read.Goals as goal
-
-pub returns : goal.returns
-returns c = λ r ids file after files blocks block lists list table right lines facts block_right laid small rows all are listed.
-    readable_again r ids file after files blocks block lists list table right lines facts block_right laid small rows all are listed

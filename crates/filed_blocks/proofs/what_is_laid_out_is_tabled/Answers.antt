@@ -1,6 +1,0 @@
-use Rattle.filed_blocks.proofs.Whole.{tabled_again}
-use Rattle.filed_blocks.proofs.what_is_laid_out_is_tabled.Goals as goal
-
-pub returns : goal.returns
-returns c = λ r ids file after table files blocks block lists list right lines facts block_right laid small rows all are listed.
-    tabled_again r ids file after table files blocks block lists list right lines facts block_right laid small rows all are listed

@@ -1,5 +1,0 @@
-use Rattle.filed_judged.proofs.Judged.{judged_right}
-use Rattle.filed_judged.proofs.what_is_laid_out_is_judged_right.Goals as goal
-
-pub returns : goal.returns
-returns c = λ r ids file after right lines facts sources laid small. judged_right r ids file after right lines facts sources laid small

@@ -1,4 +1,0 @@
-pub mod Created
-pub mod Sound
-pub mod NotFaulty
-pub mod Copied

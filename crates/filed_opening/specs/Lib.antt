@@ -1,3 +1,0 @@
-pub mod Creating
-pub mod Faults
-pub mod Migrating

@@ -1,5 +1,0 @@
-pub mod Creating
-pub mod Files
-pub mod Histories
-pub mod Reading
-pub mod Standing

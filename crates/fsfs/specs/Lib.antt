@@ -1,0 +1,5 @@
+pub mod Files
+pub mod Pieces
+pub mod Judging
+pub mod Whole
+pub mod Reached

@@ -1,7 +1,0 @@
-use Rattle.std.proofs.Common.{◌≡◌, ◌-◌, length}
-use Rattle.fsfs_dumps.specs.Reading.{pairs_within}
-use Rattle.fsfs_dumps.proofs.Loop.{behind}
-use Rattle.fsfs_dumps.proofs.reading.all_pairs.Given as goal
-
-abbrev pub invariant-loop : goal.invariant-loop
-invariant-loop l = behind l.pairs.items (pairs_within (length l.bytes - l.counter) l.rest) ≡ pairs_within (length l.bytes) l.bytes

@@ -1,5 +1,0 @@
-use Rattle.fsfs_format.proofs.Again.{format_again}
-use Rattle.fsfs_format.proofs.laws.a_format_is_read_again.Goals as goal
-
-pub returns : goal.returns
-returns c = λ format fits. format_again format fits

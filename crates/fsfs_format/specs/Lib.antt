@@ -1,2 +1,0 @@
-pub mod Maybe
-pub mod Formats

@@ -1,6 +1,0 @@
-use Rattle.std.proofs.Common.{◌≡◌, drop}
-use Rattle.fsfs_judging.specs.Judging.{judged_changes}
-use Rattle.fsfs_judging.proofs.revision.judge_changes.Given as goal
-
-abbrev pub invariant-loop-change : goal.invariant-loop-change
-invariant-loop-change l = judged_changes l.revision (drop l.change-index l.changes) ≡ judged_changes l.revision l.changes

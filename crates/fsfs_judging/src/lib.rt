@@ -1,7 +1,0 @@
-//! What a revision file says of node revisions that stand elsewhere, judged.
-#![tactic(auto)]
-
-mod entries;
-mod revision;
-
-pub use revision::judge_revision;

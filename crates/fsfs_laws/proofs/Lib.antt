@@ -1,4 +1,0 @@
-pub mod Parts
-pub mod Entries
-pub mod Descent
-pub mod Again

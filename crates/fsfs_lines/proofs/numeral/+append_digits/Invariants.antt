@@ -1,4 +1,0 @@
-use Rattle.fsfs_lines.proofs.numeral.+append_digits.Given as goal
-
-abbrev pub decreases-append_digits : goal.decreases-append_digits
-decreases-append_digits l = l.n

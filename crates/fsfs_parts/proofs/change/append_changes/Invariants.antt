@@ -1,6 +1,0 @@
-use Rattle.std.proofs.Common.{◌≡◌, ◌++◌, take}
-use Rattle.fsfs_parts.specs.Changes.{changes_bytes}
-use Rattle.fsfs_parts.proofs.change.append_changes.Given as goal
-
-abbrev pub invariant-loop-change : goal.invariant-loop-change
-invariant-loop-change l = l.out.items ≡ l.fn.out.items ++ changes_bytes (take l.change-index l.changes)

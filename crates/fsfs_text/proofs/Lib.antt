@@ -1,0 +1,6 @@
+pub mod Splits
+pub mod Numbers
+pub mod FormatsAgain
+pub mod DumpsAgain
+pub mod DumpLoop
+pub mod IdsAgain

@@ -1,0 +1,11 @@
+pub mod Reading
+pub mod Splits
+pub mod Numerals
+pub mod Maybe
+pub mod Formats
+pub mod Dumps
+pub mod DumpReading
+pub mod Ids
+pub mod Representations
+pub mod Places
+pub mod Fits

@@ -1,5 +1,0 @@
-use Rattle.fsfs_writing.proofs.Again.{changes_again}
-use Rattle.fsfs_writing.proofs.laws.a_change_is_read_again.Goals as goal
-
-pub returns : goal.returns
-returns c = λ changes fits. changes_again changes fits

@@ -1,6 +1,0 @@
-pub mod State
-pub mod Runs
-pub mod Asked
-pub mod Laws
-pub mod Done
-pub mod SessionLaws

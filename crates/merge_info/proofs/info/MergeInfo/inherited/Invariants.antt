@@ -1,6 +1,0 @@
-use Rattle.std.proofs.Common.{take}
-use Rattle.merge_info.specs.{Gathered.IsGathered, Sources.inherited}
-use Rattle.merge_info.proofs.info.MergeInfo.inherited.Given as goal
-
-abbrev pub invariant-loop-source : goal.invariant-loop-source
-invariant-loop-source l = IsGathered (inherited l.rest (take l.source-index l.source-items)) l.gathered.entries

@@ -1,9 +1,0 @@
-use Rattle.std.proofs.Common.{subst}
-use Rattle.merge_info.specs.{Gathered.IsGatheredFrom}
-use Rattle.merge_info.proofs.Rights.{read_right}
-use Rattle.merge_info.proofs.info.MergeInfo.read.Goals as goal
-
-pub returns-in_ok-from_gathered-in-Some-clause-right : goal.returns-in_ok-from_gathered-in-Some-clause-right
-returns-in_ok-from_gathered-in-Some-clause-right c =
-    let from = subst (IsGatheredFrom c.args.value.now) c.in-Some.is c.in_ok-gathered.ensures in
-    read_right c.args.value.now from.0 c.in_ok-from_gathered-in-Some.field-0 from.1 (c.in_ok-from_gathered-in-Some.ensures from.0 from.2)

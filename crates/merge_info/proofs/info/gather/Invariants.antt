@@ -1,9 +1,0 @@
-use Rattle.std.proofs.Common.{length}
-use Rattle.merge_info.proofs.Gathering.{IsReadTo}
-use Rattle.merge_info.proofs.info.gather.Given as goal
-
-abbrev pub invariant-loop-rest : goal.invariant-loop-rest
-invariant-loop-rest l = IsReadTo l.value l.rest l.gathered.entries
-
-abbrev pub decreases-loop-rest : goal.decreases-loop-rest
-decreases-loop-rest l = length l.rest

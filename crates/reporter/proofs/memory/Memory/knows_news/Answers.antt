@@ -1,6 +1,0 @@
-use Rattle.std.proofs.Common.{sym, ◌∙◌}
-use Rattle.reporter.proofs.Remembering.{news_known}
-use Rattle.reporter.proofs.memory.Memory.knows_news.Goals as goal
-
-pub returns-in-Some : goal.returns-in-Some
-returns-in-Some g c = λ under t so. news_known t c.args.self.now c.args.path.now c.in-Some.news c.in-Some.is (sym c.is_at_or_under.ensures.value ∙ under) so
