@@ -82,9 +82,9 @@ class Row:
         else:
             self.faults.append(f"{self.name}: {text}")
 
-    def client(self, user=None, timeout=LONGEST, **words):
-        """One more client."""
-        self.clients.append(Client(self.server.port, user, timeout=timeout, tally=self.tally, **words))
+    def client(self, user=None, timeout=LONGEST, through=None, **words):
+        """One more client, through a tunnel where a folder is named."""
+        self.clients.append(Client(through or self.server.port, user, timeout=timeout, tally=self.tally, **words))
         return self.clients[-1]
 
     def patience(self):

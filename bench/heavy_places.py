@@ -9,7 +9,7 @@ import time
 from concurrent.futures import ThreadPoolExecutor
 
 import spelling
-from clients import FULL, URL, Client, Ended, Refused, connect, edit
+from clients import FULL, URL, Client, Ended, Refused, connect, connect_in, edit
 from heavy import MEBIBYTE, PLACES, told_in_journal
 from spelling import CLOSE_EDIT, CRAM_MD5, add_directory, add_file, delta, document, greeting_answer, string
 
@@ -17,6 +17,8 @@ from spelling import CLOSE_EDIT, CRAM_MD5, add_directory, add_file, delta, docum
 STRANGER, PER_ADDRESS, COMING = "127.0.0.2", 4, 200
 # how many come at once where all places are taken, and how many of them may wait for one
 CROWD, MOST_WAITING = 100, 64
+# how many connect through a tunnel and say nothing
+SPEECHLESS = 60
 # how many of Subversion's own clients are at work at once
 WORKING = 24
 
@@ -231,6 +233,27 @@ def working(row):
     row.say(f"{WORKING} clients at work: {len(waits):,} commands, the longest {max(waits):.2f} s, {len(faults)} of them not served")
     if faults:
         row.fail(f"of {WORKING} clients at work {len(faults)} commands were not served, as by {faults[0]!r}")
+
+
+def tunnels(row):
+    """Clients of tunnels that do not say as which account they come."""
+    connections = [connect_in(row.server.folder) for _ in range(SPEECHLESS)]
+    begun = time.monotonic()
+    comes(row, f"{SPEECHLESS} of tunnels say nothing", row.options.within)
+    with Client(row.server.folder, "alice") as client:
+        client.youngest()
+    took = time.monotonic() - begun
+    row.say(f"meanwhile one that says its account is served after {took * 1000:.0f} ms")
+    if took > 2 * row.options.within:
+        row.fail(f"one that says its account is served after {took:.2f} s")
+    gone = []
+    while len(gone) < len(connections) and time.monotonic() < begun + 10:
+        gone = [connection for connection in connections if is_over(connection)]
+        time.sleep(0.05)
+    took = time.monotonic() - begun
+    row.say(f"{len(gone)} of those that say nothing are closed after {took:.2f} s")
+    if len(gone) < len(connections) or not 4.9 < took < 6:
+        row.fail(f"{len(gone)} of {SPEECHLESS} that say nothing are closed after {took:.2f} s")
 
 
 def taking(row):

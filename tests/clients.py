@@ -147,6 +147,17 @@ def failures_of(found, before):
     return failures, before
 
 
+def connect_in(folder, account=None, timeout=60):
+    """A connection to the server of a folder by its socket, as `stdio` makes one for a client that came as an account. None is said
+    where there is none."""
+    connection = socket.socket(socket.AF_UNIX)
+    connection.settimeout(timeout)
+    connection.connect(str(folder / "svnserved.socket"))
+    if account:
+        connection.sendall(account.encode() + b"\n")
+    return connection
+
+
 def connect(port, timeout=60, address=None):
     """A connection to a server of this machine, from an address of this machine."""
     return socket.create_connection(("127.0.0.1", port), timeout, (address, 0) if address else None)
@@ -160,13 +171,17 @@ class Tally:
 
 class Client:
     """A plain client, one of today if that is said: a connection, and the items that come. What it sends is counted in a tally, which
-    others may share."""
+    others may share. With a folder in place of a port it comes through a tunnel, as the account of the user's name."""
 
     is_of_today = False
 
     def __init__(self, port, user=None, url=URL, timeout=60, address=None, password=None, tally=None, is_of_today=False):
-        self.socket = connect(port, timeout, address)
-        self.socket.setsockopt(socket.IPPROTO_TCP, socket.TCP_NODELAY, 1)
+        self.is_of_tunnel = isinstance(port, Path)
+        if self.is_of_tunnel:
+            self.socket = connect_in(port, user, timeout)
+        else:
+            self.socket = connect(port, timeout, address)
+            self.socket.setsockopt(socket.IPPROTO_TCP, socket.TCP_NODELAY, 1)
         self.stream = ItemStream()
         self.waiting = []
         self.tally = tally or Tally()
@@ -184,7 +199,9 @@ class Client:
             raise Ended(f"the server greets by {self.greeting}")
         self.send(greeting_answer(url, capabilities=OF_TODAY) if self.is_of_today else greeting_answer(url))
         self.succeed()
-        if user is None:
+        if self.is_of_tunnel:
+            self.send(b"( EXTERNAL ( 0: ) ) ")
+        elif user is None:
             self.send(ANONYMOUS)
         else:
             self.send(CRAM_MD5)

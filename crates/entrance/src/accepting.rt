@@ -1,17 +1,19 @@
 //! Connections as they come: each becomes a session, waits for a place, or is turned away.
 
-use crate::clients::{ClientVisit, caller_of, prepare};
+use crate::clients::{ClientVisit, caller_of};
 use crate::clock::millis_now;
+use crate::door::{Door, Heard, Pool};
 use crate::events::Event;
+use crate::peer::Peer;
 use crate::refusing::turn_away;
 use crate::registry::Registry;
 use crossbeam_channel::Sender;
 use refusals::Refusal;
-use session_pool::{Admission, Reading, SessionPool, Visit};
+use session_pool::{Admission, Visit};
 use std::alloc::{AllocError, Global};
 use std::collections::VecDeque;
-use std::net::{IpAddr, Net, SocketAddr, TcpListener, TcpStream};
-use std::sync::{Arc, Wait};
+use std::net::{Net, TcpStream};
+use std::sync::Wait;
 use std::thread;
 use std::time::{Clock, Duration};
 
@@ -31,7 +33,8 @@ const TURN: u64 = 2;
 /// How long it sleeps where none comes at any of several addresses, in milliseconds.
 const ROUND: u64 = 5;
 
-/// How long it sleeps while it waits for the last session to end, or where a connection cannot be taken, in milliseconds.
+/// How long it sleeps while it waits for the last session to end, where a connection cannot be taken, and where none comes at one
+/// place at which it may not wait, in milliseconds.
 const LAST_TURN: u64 = 50;
 
 /// What may come to a halt.
@@ -40,35 +43,11 @@ pub trait Halts {
     fn takes_no_changes(&self) -> bool;
 }
 
-/// Knows the newest reading of the file of users.
-pub trait Readings {
-    /// Gives what a session is served by that begins now; none where it is served by what the server was started with. The
-    /// file of users is read anew where it has changed, and the journal has a line of that.
-    fn newest<R: Clock + Wait>(
-        &self,
-        registry: &Registry<'_, R>,
-    ) -> Result<Option<Arc<Reading>>, AllocError>;
-}
-
-/// Never reads the file of users again.
-#[derive(Clone, Copy)]
-pub struct ReadOnce;
-
-impl Readings for ReadOnce {
-    fn newest<R: Clock + Wait>(
-        &self,
-        _registry: &Registry<'_, R>,
-    ) -> Result<Option<Arc<Reading>>, AllocError> {
-        Ok(None)
-    }
-}
-
-/// Where so many connections come in, at these addresses, so many of one client's address at a time, with what is known of those
-/// that have places, what may come to a halt, and whether no more are taken then.
+/// How so many connections come in at each door, so many of one client's address at a time, with what is known of those that have
+/// places, what may come to a halt, and whether no more are taken then.
 pub struct Entrance<'a, R, H: Drop> {
     pub rt: &'a R,
     pub alloc: Global,
-    pub listeners: &'a [TcpListener],
     pub connections: usize,
     pub per_address: u64,
     pub registry: Registry<'a, R>,
@@ -88,7 +67,6 @@ impl<'a, R, H: Drop> Drop for Entrance<'a, R, H> {
         let Entrance {
             rt: _,
             alloc: _,
-            listeners: _,
             connections: _,
             per_address: _,
             registry: _,
@@ -98,42 +76,45 @@ impl<'a, R, H: Drop> Drop for Entrance<'a, R, H> {
     }
 }
 
-/// A client that has come, and until when it waits for a place.
+/// A client that has come, what it has said, whether that is all that it is to say before its session begins, and until when it
+/// waits for a place.
 #[derive(Drop)]
 struct Newcomer {
     stream: TcpStream,
-    peer: SocketAddr,
+    peer: Peer,
+    said: Vec<u8>,
+    is_heard: bool,
     until: u64,
 }
 
-/// What takes connections, and keeps those that wait for a place, in the order in which they have come.
+/// What takes the connections of a door, and keeps those that wait for a place, in the order in which they have come.
 #[derive(Drop)]
-struct Acceptor<'s, 'e, R, H: Drop, N> {
+struct Acceptor<'s, 'e, R, H: Drop, D> {
     entrance: &'e Entrance<'e, R, H>,
-    pool: &'s SessionPool<'s, Registry<'s, R>, Registry<'s, R>>,
+    pool: &'s Pool<'s, R>,
     visits: &'s Sender<ClientVisit<'e, R>>,
-    readings: &'s N,
+    door: &'s D,
     queue: VecDeque<Newcomer>,
     left: usize,
 }
 
-impl<'s, 'e, R: Clock + Net + Wait, H: Halts + Drop, N: Readings> Acceptor<'s, 'e, R, H, N> {
+impl<'s, 'e, R: Clock + Net + Wait, H: Halts + Drop, D: Door> Acceptor<'s, 'e, R, H, D> {
     /// Says whether one address may not have all sessions.
     fn has_limit(&self) -> bool {
         self.entrance.per_address < self.entrance.registry.sessions()
     }
 
     /// Says whether an address has as many sessions as it may have, where it may not have all.
-    fn is_full(&self, address: IpAddr) -> bool {
+    fn is_full(&self, peer: Peer) -> bool {
         let limit = self.entrance.per_address;
-        self.has_limit() && self.entrance.registry.sessions_of(address) >= limit
+        peer.is_address() && self.has_limit() && self.entrance.registry.sessions_of(peer) >= limit
     }
 
     /// Counts the sessions of an address and its clients that wait for a place.
-    fn count_of(&self, address: IpAddr) -> u64 {
-        let mut count = self.entrance.registry.sessions_of(address);
+    fn count_of(&self, peer: Peer) -> u64 {
+        let mut count = self.entrance.registry.sessions_of(peer);
         for newcomer in self.queue.iter() {
-            if newcomer.peer.ip() == address {
+            if newcomer.peer.number() == peer.number() {
                 count = u64::saturating_add(count, 1);
             }
         }
@@ -141,11 +122,11 @@ impl<'s, 'e, R: Clock + Net + Wait, H: Halts + Drop, N: Readings> Acceptor<'s, '
     }
 
     /// Says how long a client of an address may wait for a place, in milliseconds; none where its address has too many.
-    fn patience_for(&self, address: IpAddr) -> Option<u64> {
-        if !self.has_limit() {
+    fn patience_for(&self, peer: Peer) -> Option<u64> {
+        if !peer.is_address() || !self.has_limit() {
             return Some(WAIT_LIMIT);
         }
-        let (count, limit) = (self.count_of(address), self.entrance.per_address);
+        let (count, limit) = (self.count_of(peer), self.entrance.per_address);
         if count < limit {
             Some(WAIT_LIMIT)
         } else if count == limit {
@@ -157,31 +138,33 @@ impl<'s, 'e, R: Clock + Net + Wait, H: Halts + Drop, N: Readings> Acceptor<'s, '
 
     /// Says whether a connection of an address becomes a session now. None does once changes have come to a halt, also while the
     /// session that met it is open.
-    fn admit(&self, address: IpAddr) -> Admission {
+    fn admit(&self, peer: Peer) -> Admission {
         if self.entrance.repository.takes_no_changes() {
             Admission::Halted
-        } else if self.is_full(address) {
+        } else if self.is_full(peer) {
             Admission::Full
         } else {
             self.pool.admit(self.entrance.rt)
         }
     }
 
-    /// Makes the visit of a connection, with the newest reading of the file of users.
-    fn visit_of(
-        &self,
-        comes: (TcpStream, SocketAddr),
-        number: u64,
-    ) -> Result<ClientVisit<'e, R>, AllocError> {
+    /// Makes the visit of a client, with the terms that its session is served by.
+    fn visit_of(&self, newcomer: Newcomer, number: u64) -> Result<ClientVisit<'e, R>, AllocError> {
+        let Newcomer {
+            stream,
+            peer,
+            said,
+            ..
+        } = newcomer;
         let (alloc, registry) = (self.entrance.alloc, &self.entrance.registry);
-        let reading = self.readings.newest(registry)?;
-        let caller = caller_of(alloc, registry, comes, number)?;
-        Ok(Visit::new(reading, caller))
+        let terms = self.door.terms(self.pool, registry, said.as_slice())?;
+        let caller = caller_of(alloc, registry, (stream, peer), number)?;
+        Ok(Visit::new(terms, caller))
     }
 
-    /// Says whether a connection is on its way to a worker.
-    fn hand_over(&self, comes: (TcpStream, SocketAddr), number: u64) -> bool {
-        match self.visit_of(comes, number) {
+    /// Says whether a client is on its way to a worker.
+    fn hand_over(&self, newcomer: Newcomer, number: u64) -> bool {
+        match self.visit_of(newcomer, number) {
             Ok(visit) => self.visits.send(self.entrance.rt, visit).is_ok(),
             Err(AllocError) => false,
         }
@@ -189,16 +172,16 @@ impl<'s, 'e, R: Clock + Net + Wait, H: Halts + Drop, N: Readings> Acceptor<'s, '
 
     /// Makes a connection a session of this number. Where there is no memory for it, it is closed.
     fn begin(&self, newcomer: Newcomer, number: u64) {
-        let Newcomer {
-            stream,
-            peer,
-            until: _,
-        } = newcomer;
-        if self.entrance.registry.begins(number, peer).is_err() {
+        if self
+            .entrance
+            .registry
+            .begins(number, newcomer.peer)
+            .is_err()
+        {
             self.pool.leave(self.entrance.rt);
             return;
         }
-        if !self.hand_over((stream, peer), number) {
+        if !self.hand_over(newcomer, number) {
             self.pool.leave(self.entrance.rt);
             self.entrance.registry.ends(number);
         }
@@ -217,7 +200,7 @@ impl<'s, 'e, R: Clock + Net + Wait, H: Halts + Drop, N: Readings> Acceptor<'s, '
 
     /// Turns a client away that finds no place.
     fn refuse_full(&self, newcomer: &Newcomer) {
-        let event = if self.is_full(newcomer.peer.ip()) {
+        let event = if self.is_full(newcomer.peer) {
             Event::AddressFull(newcomer.peer)
         } else {
             Event::Full(newcomer.peer)
@@ -225,9 +208,30 @@ impl<'s, 'e, R: Clock + Net + Wait, H: Halts + Drop, N: Readings> Acceptor<'s, '
         self.refuse(&newcomer.stream, event);
     }
 
-    /// Makes a client's connection a session, or turns it away, and gives it back where it waits for a place.
+    /// Hears what a client says, and says what is known of that.
+    fn hear(&self, newcomer: &mut Newcomer) -> Heard {
+        if newcomer.is_heard {
+            return Heard::All;
+        }
+        let heard = self.door.hear(&newcomer.stream, &mut newcomer.said);
+        newcomer.is_heard = matches!(heard, Heard::All);
+        heard
+    }
+
+    /// Hears a client, makes its connection a session, or turns it away, and gives it back where it waits for a place, or has not
+    /// said all. One that says what it may not say, or nothing for too long, is closed.
     fn settle(&self, newcomer: Newcomer, now: u64) -> Option<Newcomer> {
-        match self.admit(newcomer.peer.ip()) {
+        let mut newcomer = newcomer;
+        match self.hear(&mut newcomer) {
+            Heard::All => self.place(newcomer, now),
+            Heard::Part if now < newcomer.until => Some(newcomer),
+            _ => None,
+        }
+    }
+
+    /// Makes a client's connection a session, or turns it away, and gives it back where it waits for a place.
+    fn place(&self, newcomer: Newcomer, now: u64) -> Option<Newcomer> {
+        match self.admit(newcomer.peer) {
             Admission::Session(number) => {
                 self.begin(newcomer, number);
                 None
@@ -262,7 +266,7 @@ impl<'s, 'e, R: Clock + Net + Wait, H: Halts + Drop, N: Readings> Acceptor<'s, '
                 break;
             };
             if let Some(newcomer) = self.settle(newcomer, now) {
-                if !self.is_full(newcomer.peer.ip()) {
+                if newcomer.is_heard && !self.is_full(newcomer.peer) {
                     wanted = wanted.saturating_add(1);
                 }
                 self.put(newcomer);
@@ -278,11 +282,11 @@ impl<'s, 'e, R: Clock + Net + Wait, H: Halts + Drop, N: Readings> Acceptor<'s, '
     }
 
     /// Takes a client that has come: it becomes a session, waits for a place, or is turned away.
-    fn take(&mut self, stream: TcpStream, peer: SocketAddr) {
-        if prepare(&stream).is_err() {
+    fn take(&mut self, stream: TcpStream, peer: Peer) {
+        if self.door.prepare(&stream).is_err() {
             return;
         }
-        let Some(patience) = self.patience_for(peer.ip()) else {
+        let Some(patience) = self.patience_for(peer) else {
             self.refuse(&stream, Event::AddressFull(peer));
             return;
         };
@@ -290,6 +294,8 @@ impl<'s, 'e, R: Clock + Net + Wait, H: Halts + Drop, N: Readings> Acceptor<'s, '
         let newcomer = Newcomer {
             stream,
             peer,
+            said: Vec::new(self.entrance.alloc),
+            is_heard: false,
             until: now.saturating_add(patience),
         };
         if !self.queue.is_empty() {
@@ -299,37 +305,31 @@ impl<'s, 'e, R: Clock + Net + Wait, H: Halts + Drop, N: Readings> Acceptor<'s, '
         }
     }
 
-    /// Says whether it may wait for a connection: at one address, while no client waits for a place and more are to be taken.
+    /// Says whether it may wait for a connection: at one place, while no client waits and more are to be taken.
     fn may_wait(&self) -> bool {
-        let is_alone = self.entrance.listeners.len() == 1;
+        let is_alone = self.door.places() == 1 && self.door.may_wait();
         is_alone && self.queue.is_empty() && !self.entrance.is_closing()
     }
 
-    /// Takes a connection that has come at each address, and says whether there was one.
+    /// Takes a connection that has come at each place, and says whether there was one.
     fn accept(&mut self) -> bool {
         let mut has_come = false;
-        for listener in self.entrance.listeners {
-            has_come = self.accept_at(listener) || has_come;
+        for place in 0..self.door.places() {
+            has_come = self.accept_at(place) || has_come;
         }
         has_come
     }
 
-    /// Takes a connection that has come at an address, and says whether there was one.
-    fn accept_at(&mut self, listener: &TcpListener) -> bool {
+    /// Takes a connection that has come at a place, and says whether there was one.
+    fn accept_at(&mut self, place: usize) -> bool {
         if self.left == 0 {
             return false;
         }
-        // where the mode cannot be set, it is as it was
-        let _ = listener.set_nonblocking(!self.may_wait());
-        let Ok((stream, peer)) = listener.accept() else {
+        let Some((stream, peer)) = self.door.take(place, self.may_wait()) else {
             return false;
         };
         self.left = self.left.saturating_sub(1);
-        // a listener of IPv6 gives addresses of IPv4 as addresses of its own
-        self.take(
-            stream,
-            SocketAddr::new(peer.ip().to_canonical(), peer.port()),
-        );
+        self.take(stream, peer);
         true
     }
 
@@ -344,10 +344,10 @@ impl<'s, 'e, R: Clock + Net + Wait, H: Halts + Drop, N: Readings> Acceptor<'s, '
     fn turn(&self) -> u64 {
         if !self.queue.is_empty() {
             TURN
-        } else if self.may_wait() || self.entrance.is_closing() {
-            LAST_TURN
-        } else {
+        } else if self.door.places() > 1 && !self.entrance.is_closing() {
             ROUND
+        } else {
+            LAST_TURN
         }
     }
 
@@ -365,18 +365,18 @@ impl<'s, 'e, R: Clock + Net + Wait, H: Halts + Drop, N: Readings> Acceptor<'s, '
     }
 }
 
-/// Takes connections as they come. Each session is served by the newest reading of the file of users.
-pub fn take_all<'e, R: Clock + Net + Wait, H: Halts + Drop, N: Readings>(
+/// Takes the connections of a door as they come.
+pub fn take_all<'e, R: Clock + Net + Wait, H: Halts + Drop, D: Door>(
     entrance: &'e Entrance<'e, R, H>,
-    pool: &SessionPool<'_, Registry<'_, R>, Registry<'_, R>>,
+    pool: &Pool<'_, R>,
     visits: &Sender<ClientVisit<'e, R>>,
-    readings: &N,
+    door: &D,
 ) {
     let mut acceptor = Acceptor {
         entrance,
         pool,
         visits,
-        readings,
+        door,
         queue: VecDeque::new(entrance.alloc),
         left: entrance.connections,
     };

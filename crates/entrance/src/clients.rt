@@ -2,22 +2,18 @@
 ghost use Rattle.std.specs.Io.{ReadsAtMost};
 
 use crate::clock::millis_now;
+use crate::door::READ_TURN;
+use crate::peer::Peer;
 use crate::registry::Registry;
 use crate::visitor::Visitor;
 use presence::{Connection, has_gone};
 use session_pool::{Caller, Visit};
 use std::alloc::{AllocError, Global};
 use std::io::{ErrorKind, Read, Write};
-use std::net::{SocketAddr, TcpStream};
+use std::net::TcpStream;
 use std::sync::{Arc, Wait};
 use std::time::{Clock, Duration};
 use std::{io, thread};
-
-/// How long a read waits before its session asks whether it is to end, in milliseconds.
-const READ_TURN: u64 = 250;
-
-/// How long a write waits, in seconds.
-const WRITE_TURN: u64 = 1;
 
 /// How often a write that moves no byte is tried: so many turns a client may take nothing of what it is sent.
 const WRITE_TURNS: u64 = 60;
@@ -32,21 +28,14 @@ const COMMANDS: usize = 2_048;
 /// A client that has come, on its way to a worker.
 pub type Client<'a, R> = Caller<ClientInput<'a, R>, ClientOutput, Visitor<'a, R>>;
 
-/// A client that has come, with the reading that its session is served by.
+/// A client that has come, with the terms that its session is served by.
 pub type ClientVisit<'a, R> = Visit<ClientInput<'a, R>, ClientOutput, Visitor<'a, R>>;
-
-/// Sets what each connection has: replies go out at once, and nobody waits for a client for long.
-pub(crate) fn prepare(stream: &TcpStream) -> io::Result<()> {
-    stream.set_nodelay(true)?;
-    stream.set_read_timeout(Some(Duration::from_millis(READ_TURN)))?;
-    stream.set_write_timeout(Some(Duration::from_secs(WRITE_TURN)))
-}
 
 /// Makes the caller of a connection.
 pub(crate) fn caller_of<'a, R>(
     alloc: Global,
     registry: &'a Registry<'a, R>,
-    (stream, peer): (TcpStream, SocketAddr),
+    (stream, peer): (TcpStream, Peer),
     number: u64,
 ) -> Result<Client<'a, R>, AllocError> {
     let stream = Arc::new(alloc, stream)?;

@@ -1,29 +1,31 @@
 //! What an administrator is told.
 
+use crate::peer::Peer;
 use guests::Ending;
 use std::alloc::{AllocError, Global};
-use std::net::SocketAddr;
 
 /// What an administrator is told, beside what a session tells.
 #[derive(Clone, Copy, Debug)]
 pub enum Event {
     /// The session of this number begins, for a client at this address.
-    Begins(u64, SocketAddr),
+    Begins(u64, Peer),
     Ends(u64),
     /// The session of this number is ended because its client sends nothing.
     Ended(u64, Ending),
     /// As many sessions are open as may be, and this client is turned away.
-    Full(SocketAddr),
+    Full(Peer),
     /// The address of this client has as many sessions as it may have, and the client is turned away.
-    AddressFull(SocketAddr),
+    AddressFull(Peer),
     /// A client is turned away because changes have come to a halt.
-    TurnedAway(SocketAddr),
+    TurnedAway(Peer),
     /// A replacement of a file has failed, and changes have come to a halt.
     StoreFailed,
     /// The file of users can be read by others than its owner and its group.
     UsersReadable,
     /// The file of users can be written by others than its owner and its group.
     UsersWritable,
+    /// The clients of tunnels cannot come in.
+    NoTunnel,
     /// So many files may be open at a time, and so many are needed, which are more.
     FewFiles(u64, u64),
 }
@@ -40,7 +42,7 @@ fn ending_text(alloc: Global, session: u64, ending: Ending) -> Result<String, Al
 }
 
 /// Writes why a client is turned away.
-fn refusal_text(alloc: Global, peer: SocketAddr, why: &str) -> Result<String, AllocError> {
+fn refusal_text(alloc: Global, peer: Peer, why: &str) -> Result<String, AllocError> {
     format!(in alloc; "{peer} is turned away: {why}")
 }
 
@@ -73,6 +75,12 @@ impl Event {
             }
             Event::UsersReadable => warning_text(alloc, "others can read the file of users"),
             Event::UsersWritable => warning_text(alloc, "others can write the file of users"),
+            Event::NoTunnel => {
+                warning_text(
+                    alloc,
+                    "no socket is made in the folder, so tunnels do not reach the server",
+                )
+            }
             Event::FewFiles(files, needed) => few_files_text(alloc, files, needed),
         }
     }

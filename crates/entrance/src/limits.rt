@@ -6,9 +6,10 @@ use crate::events::Event;
 use std::fs::{File, Files};
 use std::io::{self, Read};
 
-/// How many files the server has open at most but for those of sessions: the standard streams, the listener, the lock of the
-/// folder, one for each client that waits for a place, a connection that is judged, and a file that is written.
-const OTHER_FILES: u64 = 3 + 2 + MAX_WAITING as u64 + 2;
+/// How many files the server has open at most but for those of sessions: the standard streams, the listeners of two doors, the lock
+/// of the folder, one for each client that waits for a place at one of two doors, a
+/// connection that is judged at each, and a file that is written.
+const OTHER_FILES: u64 = 3 + 3 + 2 * MAX_WAITING as u64 + 3;
 
 /// The file in which the system tells a process of its limits.
 const LIMITS: &str = "/proc/self/limits";

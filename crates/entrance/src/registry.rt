@@ -3,13 +3,14 @@
 use crate::clock::millis_now;
 use crate::events::Event;
 use crate::notes::Notes;
+use crate::peer::Peer;
 use guests::{Awaited, Ending, Guests};
 use journals::Journal;
 use session_pool::{Gate, TalkFault, Watch};
 use std::alloc::{AllocError, Global};
 use std::collections::BTreeMap;
 use std::io::Eprint;
-use std::net::{IpAddr, Net, SocketAddr, TcpStream};
+use std::net::{Net, SocketAddr, TcpStream};
 use std::sync::atomic::{AtomicBool, AtomicU64, Ordering};
 use std::sync::{Mutex, Wait};
 use std::time::{Clock, Duration};
@@ -42,7 +43,7 @@ pub struct Registry<'a, R> {
     notes: Notes,
     guests: Mutex<Guests>,
     /// Where the client of each session is.
-    peers: Mutex<BTreeMap<u64, SocketAddr>>,
+    peers: Mutex<BTreeMap<u64, Peer>>,
 }
 
 impl<'a, R> Drop for Registry<'a, R> {
@@ -63,19 +64,10 @@ impl<'a, R> Drop for Registry<'a, R> {
     }
 }
 
-/// Makes a number of an address: of an IPv4 address its bits, also where an IPv6 address has it in it. Of any other IPv6
-/// address it is the first half, since the whole of a network is as easily had as one address of it.
-fn number_of(address: IpAddr) -> u64 {
-    match address.to_canonical() {
-        IpAddr::V4(address) => u64::from(address.to_bits()),
-        IpAddr::V6(address) => (address.to_bits() >> 64) as u64,
-    }
-}
-
 /// Writes how many logins of a session were refused, whose client is at this address, and with which name the first was tried.
 fn refused_text(
     alloc: Global,
-    (session, peer): (u64, SocketAddr),
+    (session, peer): (u64, Peer),
     logins: u64,
     name: Option<&[u8]>,
 ) -> Result<String, AllocError> {
@@ -172,14 +164,14 @@ impl<'a, R: Clock + Wait> Registry<'a, R> {
         self.journal.tell(text);
     }
 
-    /// Counts the sessions of an address.
-    pub(crate) fn sessions_of(&self, address: IpAddr) -> u64 {
-        self.guests.lock(self.rt).count_of(number_of(address))
+    /// Counts the sessions of all that count as one with a client.
+    pub(crate) fn sessions_of(&self, peer: Peer) -> u64 {
+        self.guests.lock(self.rt).count_of(peer.number())
     }
 
     /// Notes that a session begins, and tells it.
-    pub(crate) fn begins(&self, session: u64, peer: SocketAddr) -> Result<(), AllocError> {
-        let (address, now) = (number_of(peer.ip()), millis_now(self.rt));
+    pub(crate) fn begins(&self, session: u64, peer: Peer) -> Result<(), AllocError> {
+        let (address, now) = (peer.number(), millis_now(self.rt));
         self.peers.lock(self.rt).insert(session, peer)?;
         if let Err(error) = self.guests.lock(self.rt).come(session, address, now) {
             self.peers.lock(self.rt).remove(&session);
@@ -200,8 +192,8 @@ impl<'a, R: Clock + Wait> Registry<'a, R> {
         self.open.fetch_sub(1, Ordering::SeqCst);
     }
 
-    /// Gives the address of the client of a session, if the session is open.
-    fn peer_of(&self, session: u64) -> Option<SocketAddr> {
+    /// Says where the client of a session comes from, if the session is open.
+    fn peer_of(&self, session: u64) -> Option<Peer> {
         self.peers.lock(self.rt).get(&session).copied()
     }
 

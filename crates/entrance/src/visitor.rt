@@ -1,10 +1,10 @@
 //! The client of a session.
 
+use crate::peer::Peer;
 use crate::registry::Registry;
 use byte_string::ByteString;
 use presence::{Connection, Deed, Presence};
 use std::alloc::{AllocError, Global};
-use std::net::SocketAddr;
 use std::sync::Wait;
 use std::time::Clock;
 use svnpath::Path;
@@ -13,7 +13,7 @@ use svnpath::Path;
 /// address of the client.
 pub struct Visitor<'a, R> {
     connection: Connection,
-    told: Option<(&'a Registry<'a, R>, u64, SocketAddr)>,
+    told: Option<(&'a Registry<'a, R>, u64, Peer)>,
 }
 
 impl<'a, R> Drop for Visitor<'a, R> {
@@ -31,7 +31,7 @@ impl<'a, R> Visitor<'a, R> {
         connection: Connection,
         registry: &'a Registry<'a, R>,
         session: u64,
-        peer: SocketAddr,
+        peer: Peer,
     ) -> Self {
         Visitor {
             connection,
@@ -91,7 +91,7 @@ fn deed_text(alloc: Global, deed: Deed<'_>) -> Result<String, AllocError> {
 fn line_text(
     alloc: Global,
     session: u64,
-    peer: SocketAddr,
+    peer: Peer,
     user: Option<&ByteString>,
     deed: Deed<'_>,
 ) -> Result<String, AllocError> {

@@ -1,7 +1,7 @@
 //! A client at the other end of a connection.
 use crate::client::Presence;
 use std::alloc::AllocError;
-use std::io::ErrorKind;
+use std::io::{ErrorKind, Write};
 use std::net::TcpStream;
 use std::sync::Arc;
 
@@ -27,12 +27,21 @@ impl Connection {
     }
 }
 
-/// Says whether nothing more comes, while no read waits for it. A connection that has failed has nobody at its other end, also
-/// where there are bytes that came before.
+/// Says whether a connection has nobody at its other end, also where there are bytes that came before. One over TCP has no
+/// address there then. One through a socket in a folder has no addresses at all, and takes nothing then, not even no bytes.
+fn has_failed(stream: &TcpStream) -> bool {
+    if stream.local_addr().is_ok() {
+        return stream.peer_addr().is_err();
+    }
+    let mut output = stream;
+    output.write(&[]).is_err()
+}
+
+/// Says whether nothing more comes, while no read waits for it.
 fn has_ended(stream: &TcpStream) -> bool {
     let mut next = [0; 1];
     match stream.peek(&mut next) {
-        Ok(count) => count == 0 || stream.peer_addr().is_err(),
+        Ok(count) => count == 0 || has_failed(stream),
         Err(error) => !matches!(error.kind(), ErrorKind::WouldBlock | ErrorKind::Interrupted),
     }
 }

@@ -23,12 +23,14 @@ impl Opening for Silent {
     }
 }
 
-/// Tells where the server listens, and then prints `ready`. A limit of open files that is too low is told before.
+/// Tells where the server listens, and then prints `ready`. Before that it tells where the limit of open files is too low, and
+/// where there is no door for tunnels.
 #[derive(Drop)]
 pub(crate) struct Aloud<'a, P> {
     pub(crate) rt: &'a P,
     pub(crate) listeners: &'a [TcpListener],
     pub(crate) too_few_files: Option<Event>,
+    pub(crate) has_tunnel: bool,
 }
 
 impl<'a, P: Eprint> Aloud<'a, P> {
@@ -47,6 +49,9 @@ impl<'a, P: Print + Eprint> Opening for Aloud<'a, P> {
     fn tell<R: Eprint + Clock>(&self, registry: &Registry<'_, R>) -> Result<(), ServingFault> {
         if let Some(event) = self.too_few_files {
             registry.tell_first(event);
+        }
+        if !self.has_tunnel {
+            registry.tell_first(Event::NoTunnel);
         }
         if !registry.is_quiet() {
             self.tell_addresses();

@@ -12,7 +12,8 @@ use crate::reason::Reason;
 use crate::settings::{Server, Settings};
 use crossbeam_channel::{Receiver, Sender, unbounded};
 use entrance::{
-    ClientVisit, Entrance, Event, ReadOnce, Readings, Registry, take_all, too_few_files,
+    ClientVisit, Door, Entrance, Event, Pool, ReadOnce, Readings, Registry, Street, Tunnel,
+    take_all, too_few_files,
 };
 use filed_repository::FiledWorld;
 use journals::{Journal, Room, write_lines};
@@ -30,22 +31,22 @@ use std::time::Clock;
 use store_files::{Store, StoreFault};
 use stored_repository::Filed;
 
-/// Takes connections at an entrance of a repository in files: for any repository, since at a named one the checker
-/// reaches its limit of steps.
-fn take_at<'e, R, F, S, J, N>(
+/// Takes the connections of a door at an entrance of a repository in files: for any repository, since at a named one the
+/// checker reaches its limit of steps.
+fn take_at<'e, R, F, S, J, D>(
     entrance: &'e Entrance<'e, R, SharedFiles<F, S, J>>,
-    pool: &SessionPool<'_, Registry<'_, R>, Registry<'_, R>>,
+    pool: &Pool<'_, R>,
     visits: &Sender<ClientVisit<'e, R>>,
-    readings: &N,
+    door: &D,
 )
 where
     R: Clock + Net + Wait,
     F: Filed,
     S: Store,
     J: Naming,
-    N: Readings,
+    D: Door,
 {
-    take_all(entrance, pool, visits, readings)
+    take_all(entrance, pool, visits, door)
 }
 
 /// Says why no more connections are taken, where that is a fault.
@@ -63,22 +64,29 @@ where
     Ok(())
 }
 
-/// The way of connections to the threads that serve them, what is told as it opens, and who knows the newest reading of the
-/// file of users.
+/// The doors by which clients come in: over TCP, and by tunnels where there is a socket in the folder.
+#[derive(Drop)]
+struct Doors<'a, N> {
+    street: &'a Street<'a, N>,
+    tunnel: Option<&'a Tunnel>,
+}
+
+/// The way of connections to the threads that serve them, by these doors, and what is told as it opens.
 #[derive(Drop)]
 struct Way<'a, 'e, R, O, N> {
     sender: Sender<ClientVisit<'e, R>>,
     visits: &'a Receiver<ClientVisit<'e, R>>,
     opening: &'a O,
-    readings: &'a N,
+    doors: Doors<'a, N>,
 }
 
-/// Starts a thread for each desk, tells that all have started, and takes connections. It answers once no more are to be taken
-/// and all sessions have ended, by a fault where changes have come to a halt; or where a thread cannot be started.
+/// Starts a thread for each desk, tells that all have started, and takes connections: those over TCP itself, those by tunnels in
+/// a thread of their own. It answers once no more are to be taken and all sessions have ended, by a fault where changes have
+/// come to a halt; or where a thread cannot be started.
 fn run_pool<'e, R, S, J, O, N>(
     server: &Server<'_, R>,
     entrance: &'e Entrance<'e, R, SharedFiles<FiledWorld, S, J>>,
-    pool: &SessionPool<'_, Registry<'_, R>, Registry<'_, R>>,
+    pool: &Pool<'_, R>,
     way: Way<'_, 'e, R, O, N>,
     desks: Vec<Desk<'_, R, FiledWorld, S, J>>,
 ) -> Result<(), ServingFault>
@@ -101,7 +109,7 @@ where
         sender,
         visits,
         opening,
-        readings,
+        doors,
     } = way;
     thread::scope(
         thread::scope_env(),
@@ -122,7 +130,15 @@ where
                 }
             }
             opening.tell(&entrance.registry)?;
-            take_at(entrance, pool, &sender, readings);
+            let Doors { street, tunnel } = doors;
+            if let Some(tunnel) = tunnel {
+                let sender = sender.clone()?;
+                let taker = scope.spawn(move || take_at(entrance, pool, &sender, tunnel));
+                if taker.is_err() {
+                    return Err(ServingFault::Thread);
+                }
+            }
+            take_at(entrance, pool, &sender, street);
             ending_of(entrance)
         },
     )
@@ -132,7 +148,7 @@ where
 fn serve_desks<'e, R, S, J, O, N>(
     server: &Server<'_, R>,
     entrance: &'e Entrance<'e, R, SharedFiles<FiledWorld, S, J>>,
-    told: (&O, &N),
+    told: (&O, Doors<'_, N>),
     desks: Vec<Desk<'_, R, FiledWorld, S, J>>,
 ) -> Result<(), ServingFault>
 where
@@ -149,7 +165,7 @@ where
     N: Readings,
     requires { All (λ d. AreSound (content_of (point_of d.seat)).revisions) desks.items }
 {
-    let (opening, readings) = told;
+    let (opening, doors) = told;
     let (sender, visits) = unbounded::<ClientVisit<'e, R>, Global>(entrance.alloc)?;
     let options = &server.settings.options;
     let pool = SessionPool::new(
@@ -162,7 +178,7 @@ where
         sender,
         visits: &visits,
         opening,
-        readings,
+        doors,
     };
     run_pool(server, entrance, &pool, way, desks)
 }
@@ -172,6 +188,7 @@ where
 #[derive(Drop)]
 struct Arrivals<'a, O, N> {
     listeners: &'a [TcpListener],
+    tunnel: Option<&'a Tunnel>,
     connections: usize,
     opening: &'a O,
     readings: &'a N,
@@ -199,6 +216,7 @@ where
 {
     let arrivals = Arrivals {
         listeners,
+        tunnel: None,
         connections,
         opening: &Silent,
         readings: &ReadOnce,
@@ -241,6 +259,7 @@ where
     let (rt, alloc) = (server.rt, server.alloc);
     let Arrivals {
         listeners,
+        tunnel,
         connections,
         opening,
         readings,
@@ -253,7 +272,6 @@ where
     let entrance = Entrance {
         rt,
         alloc,
-        listeners,
         connections,
         per_address: server.settings.per_address,
         registry: Registry::new(rt, alloc, journal, server.settings.sessions, wakes_at),
@@ -261,7 +279,12 @@ where
         exits_on_halt,
     };
     tell_of_users(server.settings, &entrance.registry);
-    serve_desks(server, &entrance, (opening, readings), desks)
+    let street = Street::new(listeners, readings);
+    let doors = Doors {
+        street: &street,
+        tunnel,
+    };
+    serve_desks(server, &entrance, (opening, doors), desks)
 }
 
 /// Serves the connections that arrive, while a thread writes what is told of them. That ends once all is written.
@@ -323,12 +346,14 @@ where
     Ok(listeners)
 }
 
-/// Serves sessions over TCP at the desks of a repository. It prints `ready` once it listens and all threads have
-/// started, and answers only where that or a thread fails, or changes have come to a halt and it is to end then. Where the
-/// file of users has changed, sessions that begin from then on are served by its users, if its lines are right.
+/// Serves sessions over TCP at the desks of a repository, and those of tunnels where there is a door for them. It prints `ready`
+/// once it listens and all threads have started, and answers only where that or a thread fails, or changes have come to a halt
+/// and it is to end then. Where the file of users has changed, sessions over TCP that begin from then on are served by its users,
+/// if its lines are right.
 pub fn serve<R, S, J, N>(
     server: &Server<'_, R>,
     readings: &N,
+    tunnel: Option<Tunnel>,
     desks: Desks<'_, R, FiledWorld, S, J>,
 ) -> Result<(), ServingFault>
 where
@@ -352,9 +377,11 @@ where
         rt: server.rt,
         listeners: listeners.as_slice(),
         too_few_files: too_few_files(server.rt, server.settings.sessions),
+        has_tunnel: tunnel.is_some(),
     };
     let arrivals = Arrivals {
         listeners: listeners.as_slice(),
+        tunnel: tunnel.as_ref(),
         connections: usize::MAX,
         opening: &opening,
         readings,

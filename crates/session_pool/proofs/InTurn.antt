@@ -1,11 +1,11 @@
 -- Callers that are served in turn, each by the options of some reading.
-use Rattle.std.proofs.Common.{◌≡◌, ℕ, List, [], ◌∷◌, ◌++◌, inr, refl, ap, sym, subst, ◌∙◌}
+use Rattle.std.proofs.Common.{◌≡◌, ℕ, List, [], ◌∷◌, ◌++◌, refl, ap, sym, subst, ◌∙◌}
 use Rattle.std.specs.Prelude.{None, Option, Result, Some}
 use Rattle.access.specs.Points.{AccessRules, Point}
 use Rattle.cram.specs.UsersFile.{AreRight, file_lines, logins_of}
 use Rattle.machine.specs.{declared.env.Env.Env, Settings.Settings}
 use Rattle.conversations.specs.declared.fault.TalkFault.{TalkFault}
-use Rattle.session_pool.specs.{Readings.IsReadAgain, Serving.{IsServed, ServesAll, ServesInTurn, ServesOne, Stand, stand}}
+use Rattle.session_pool.specs.{Terms.{AreTerms, IsHandedOver, IsReadAgain}, Serving.{IsServed, ServesAll, ServesInTurn, ServesOne, Stand, stand}}
 
 -- options that are those of the start but for the users, which are those of a right file
 pub is_read_again : (start s : Settings) (bytes : List ℕ) → AreRight (file_lines bytes)
@@ -13,7 +13,13 @@ pub is_read_again : (start s : Settings) (bytes : List ℕ) → AreRight (file_l
     → s.revprops ≡ start.revprops
     → IsReadAgain start s
 is_read_again start s bytes right users name of_s of_start revprops =
-    inr (bytes, right, λ i. record { name = name i; account = (of_s ∙ sym of_start) i; users = users i; revprops = revprops i })
+    (bytes, right, λ i. record { name = name i; account = (of_s ∙ sym of_start) i; users = users i; revprops = revprops i })
+
+-- options that are those of the start but for the account and the users, of which there are none
+pub is_handed_over : (start s : Settings) (account : List ℕ) → s.account ≡ Some account → s.users ≡ None
+    → s.name ≡ start.name → s.revprops ≡ start.revprops → IsHandedOver start s
+is_handed_over start s account known users name revprops =
+    (account, λ i. record { name = name i; account = known i; users = users i; revprops = revprops i })
 
 module _ {E : Type 0} (rules : AccessRules) (gives : E → Env → E → Type 0) where
   -- none was served yet
@@ -21,7 +27,7 @@ module _ {E : Type 0} (rules : AccessRules) (gives : E → Env → E → Type 0)
   serves_none old = record { turns = []; served = refl }
 
   all_and_one : (old : Stand E) (turns : List (Stand E)) (settings : Settings) (p q : Point) (e f : E)
-      → ServesAll rules gives old turns (stand old.settings p e) → IsReadAgain old.settings settings
+      → ServesAll rules gives old turns (stand old.settings p e) → AreTerms old.settings settings
       → ServesOne rules gives (stand settings p e) (stand settings q f)
       → ServesAll rules gives old (turns ++ stand settings q f ∷ []) (stand old.settings q f)
   all_and_one old [] settings p q e f same read one =
@@ -31,7 +37,7 @@ module _ {E : Type 0} (rules : AccessRules) (gives : E → Env → E → Type 0)
 
   -- and one more
   pub serves_one_more : (old : Stand E) (settings : Settings) (p q : Point) (e f : E)
-      → ServesInTurn rules gives old (stand old.settings p e) → IsReadAgain old.settings settings
+      → ServesInTurn rules gives old (stand old.settings p e) → AreTerms old.settings settings
       → ServesOne rules gives (stand settings p e) (stand settings q f)
       → ServesInTurn rules gives old (stand old.settings q f)
   serves_one_more old settings p q e f h read one = record {

@@ -3,7 +3,7 @@ use Rattle.std.specs.Prelude.{◌≡◌, ℕ, List, [], ◌∷◌, Option, Resul
 use Rattle.access.specs.Points.{AccessRules, Point}
 use Rattle.machine.specs.{declared.env.Env.Env, Settings.Settings}
 use Rattle.conversations.specs.{Conversation.{Served, sight}, declared.fault.TalkFault.TalkFault}
-use Rattle.session_pool.specs.{Readings.IsReadAgain, declared.attendant.Attendant.Attendant, declared.pool.SessionPool.SessionPool}
+use Rattle.session_pool.specs.{Terms.AreTerms, declared.attendant.Attendant.Attendant, declared.pool.SessionPool.SessionPool}
 
 -- the options of its sessions, the last moment of the repository that it was shown, and the source of
 -- what is handed in
@@ -38,13 +38,13 @@ ServesOne rules gives old new =
     × (unread : Option (List ℕ)) × (written : Option (List ℕ))
     × IsServed rules gives result input output unread written old new
 
--- some callers were served, one after another, each by the options of the start or of a later reading of the
--- file of users, and nothing else was done: so it stood after each, with the options that it was served by
+-- some callers were served, one after another, each by such terms, and nothing else was done: so it
+-- stood after each, with the options that it was served by
 abbrev pub ServesAll : {E : Type 0} → AccessRules → (E → Env → E → Type 0) → Stand E
     → List (Stand E) → Stand E → Type 0
 ServesAll rules gives old [] new = new ≡ old
 ServesAll rules gives old (mid ∷ later) new =
-    IsReadAgain old.settings mid.settings
+    AreTerms old.settings mid.settings
     × ServesOne rules gives (stand mid.settings old.point old.envs) mid
     × ServesAll rules gives (stand old.settings mid.point mid.envs) later new
 

@@ -7,6 +7,7 @@ mod attendant;
 mod places;
 mod pool;
 mod reading;
+mod terms;
 mod visit;
 
 pub use admission::Admission;
@@ -14,4 +15,5 @@ pub use attendant::{Attendant, Caller};
 pub use conversations::{Env, EnvSource, Gate, TalkFault, Watch};
 pub use pool::SessionPool;
 pub use reading::Reading;
+pub use terms::Terms;
 pub use visit::Visit;

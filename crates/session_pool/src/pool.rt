@@ -3,14 +3,14 @@
 use crate::admission::Admission;
 use crate::attendant::{Attendant, Caller};
 use crate::places::Places;
-use crate::reading::options_by;
+use crate::terms::Terms;
 use crate::visit::Visit;
 use access::RepoAccess;
 use conversations::{EnvSource, Gate, TalkFault, Watch};
 use crossbeam_channel::Receiver;
 use machine::Options;
 use presence::Presence;
-use std::alloc::Global;
+use std::alloc::{AllocError, Global};
 use std::io::{Read, Write};
 use std::mem::drop;
 use std::sync::{Mutex, Wait};
@@ -51,6 +51,11 @@ impl<'p, G: Gate, W: Watch> SessionPool<'p, G, W> {
             watch,
             places: Mutex::new(Places::new(sessions)),
         }
+    }
+
+    /// Makes the terms of a client that came as the account of this name.
+    pub fn terms_of_account(&self, alloc: Global, account: &[u8]) -> Result<Terms, AllocError> {
+        Terms::of_account(alloc, self.options, account)
     }
 
     /// Says whether one more connection becomes a session. What is answered by a number is handed to a worker, or
@@ -101,8 +106,8 @@ impl<'p, G: Gate, W: Watch> SessionPool<'p, G, W> {
         attendant.into_desk()
     }
 
-    /// Serves callers at an access to the repository, one after another, until no more can come, each by the options of the
-    /// reading that it comes with, and does nothing else there. It gives the access back, and the source of what was handed in.
+    /// Serves callers at an access to the repository, one after another, until no more can come, each by the
+    /// terms that it comes with, and does nothing else there. It gives the access back, and the source of what was handed in.
     #[tactic(auto, using(crate::proofs::InTurn::serves_none))]
     pub fn serve_at<
         R: Wait,
@@ -122,8 +127,8 @@ impl<'p, G: Gate, W: Watch> SessionPool<'p, G, W> {
             let Ok(visit) = visits.recv(rt) else {
                 break;
             };
-            let (reading, caller) = visit.into_parts();
-            let options = options_by(self.options, &reading);
+            let (terms, caller) = visit.into_parts();
+            let options = terms.options(self.options);
             served = self.serve_one(rt, alloc, (options, caller), served);
         }
         served

@@ -1,10 +1,9 @@
 //! A reading of the file of users, after the first one.
 ghost use Rattle.std.specs.Prelude.{◌≡◌, IsTrue, None, Some};
 ghost use Rattle.cram.specs.UsersFile.{AreRight, file_lines, logins_of};
-ghost use Rattle.session_pool.specs.Readings.{IsReadAgain};
+ghost use Rattle.session_pool.specs.Terms.{IsReadAgain};
 
 use machine::Options;
-use std::sync::Arc;
 
 /// What sessions are served by that begin after the file of users was read anew: its bytes, and the options with its users.
 pub struct Reading {
@@ -34,7 +33,7 @@ impl Reading {
     }
 
     /// Gives the options.
-    fn options(&self) -> &Options
+    pub(crate) fn options(&self) -> &Options
         ensures { result.now ≡ self.now.options }
     {
         &self.options
@@ -42,7 +41,7 @@ impl Reading {
 
     /// Says whether its options are those of the start but for the users.
     #[tactic(auto, using(crate::proofs::InTurn::is_read_again))]
-    fn is_of(&self, start: &Options) -> bool
+    pub(crate) fn is_of(&self, start: &Options) -> bool
         ensures { IsTrue result → IsReadAgain start.now self.now.options }
     {
         self.options.name() == start.name()
@@ -57,14 +56,4 @@ fn has_no_account(options: &Options) -> bool
     ensures { IsTrue result → options.now.account ≡ None }
 {
     options.account().is_none()
-}
-
-/// Gives the options that a session is served by: those of its reading, and those of the start where it has none.
-pub(crate) fn options_by<'o>(start: &'o Options, reading: &'o Option<Arc<Reading>>) -> &'o Options
-    ensures { IsReadAgain start.now result.now }
-{
-    match reading {
-        Some(reading) if reading.as_ref().is_of(start) => reading.as_ref().options(),
-        _ => start,
-    }
 }

@@ -1,19 +1,18 @@
 //! A caller on its way to a worker.
 
 use crate::attendant::Caller;
-use crate::reading::Reading;
-use std::sync::Arc;
+use crate::terms::Terms;
 
-/// A caller, with the reading that its session is served by; none where it is served by the options of the pool.
+/// A caller, with the terms that its session is served by.
 pub struct Visit<I, O, P> {
-    reading: Option<Arc<Reading>>,
+    terms: Terms,
     caller: Caller<I, O, P>,
 }
 
 impl<I: Drop, O: Drop, P: Drop> Drop for Visit<I, O, P> {
     fn drop(self) {
         let Visit {
-            reading: _,
+            terms: _,
             caller: _,
         } = self;
     }
@@ -23,17 +22,17 @@ impl<I, O, P> Visit<I, O, P> {
     ghost use Rattle.std.specs.Prelude.{◌≡◌};
 
     /// Makes the visit of a caller.
-    pub fn new(reading: Option<Arc<Reading>>, caller: Caller<I, O, P>) -> Self
-        ensures { result ≡ record { reading = reading; caller = caller } }
+    pub fn new(terms: Terms, caller: Caller<I, O, P>) -> Self
+        ensures { result ≡ record { terms = terms; caller = caller } }
     {
-        Visit { reading, caller }
+        Visit { terms, caller }
     }
 
     /// Gives its parts.
-    pub(crate) fn into_parts(self) -> (Option<Arc<Reading>>, Caller<I, O, P>)
-        ensures { result ≡ (self.reading, self.caller) }
+    pub(crate) fn into_parts(self) -> (Terms, Caller<I, O, P>)
+        ensures { result ≡ (self.terms, self.caller) }
     {
-        let Visit { reading, caller } = self;
-        (reading, caller)
+        let Visit { terms, caller } = self;
+        (terms, caller)
     }
 }

@@ -2,7 +2,7 @@
 use conversations::{Env, EnvSource};
 use crossbeam_channel::{Receiver, Sender, unbounded};
 use presence::{Connection, Presence};
-use session_pool::{Caller, Visit};
+use session_pool::{Caller, Terms, Visit};
 use std::alloc::Global;
 use std::io;
 use std::io::{ErrorKind, Read, Write};
@@ -179,7 +179,7 @@ fn visit_of<'a, R: Abort + Wait>(
         room: call.room,
     };
     Visit::new(
-        None,
+        Terms::OfStart,
         Caller::new(number, input, output, Connection::nobody()),
     )
 }

@@ -5,7 +5,7 @@ use Rattle.machine.specs.{Answers.Answer, Hearing.Input, Machine.{InputStep, Unr
 use Rattle.machine.specs.declared.phase.Phase.TheVariants.{Greeted}
 use Rattle.hub.specs.Asked.{AreAll, IsAsked}
 use Rattle.conversations.specs.Pieces.{Piece}
-use Rattle.session_pool.specs.Readings.{IsReadAgain}
+use Rattle.session_pool.specs.Terms.{AreTerms}
 
 -- From one list of changes to another by a session's inputs: each input is answered as the machine answers it, and asks for
 -- those that come with it.
@@ -53,9 +53,8 @@ pub record OwnOfSession (s : Settings) (before after : List Accepted) : Type 0 w
       ⊎ ((env : Env) × (inputs : List Input) × (left : Option Input)
       × OwnOfBroken s env inputs left phase mid after)
 
--- through sessions, one after another, each by the options of the start or of a later reading of the file of
--- users: so it was after each
+-- through sessions, one after another, each by terms of the start: so it was after each
 abbrev pub OwnInTurn : Settings → List Accepted → List (List Accepted) → List Accepted → Type 0
 OwnInTurn s before [] after = after ≡ before
 OwnInTurn s before (mid ∷ later) after =
-    ((here : Settings) × IsReadAgain s here × OwnOfSession here before mid) × OwnInTurn s mid later after
+    ((here : Settings) × AreTerms s here × OwnOfSession here before mid) × OwnInTurn s mid later after

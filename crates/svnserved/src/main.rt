@@ -11,6 +11,7 @@ mod migrating;
 mod repositories;
 mod sharing;
 mod told;
+mod tunnel;
 mod version;
 
 use asking::tell_status;
@@ -22,7 +23,7 @@ use hub::{FolderHub, HubFault, Options, is_repository_name};
 use migrating::migrate_folder;
 use published::NewHistory;
 use repositories::{DiskStore, create_in_folder, empty_hub, folder_hub, open_folder};
-use serving::{Reason, Server, Settings, SystemEnvs, UsersFile, read_settings};
+use serving::{Reason, Server, Settings, SystemEnvs, Tunnel, UsersFile, read_settings, tunnel_in};
 use sharing::serve_shared;
 use std::alloc::{AllocError, Global};
 use std::env;
@@ -31,8 +32,10 @@ use std::marker::Brand;
 use std::mem::drop;
 use std::process::ExitCode;
 use store_files::{MemoryStore, Store};
+use store_folder::FolderFault;
 use streams::run_stdio;
 use told::{Named, Told};
+use tunnel::serve_elsewhere;
 use version::tell_version;
 
 /// Reads the words of the command line.
@@ -171,11 +174,12 @@ fn open_to_write(
     }
 }
 
-/// Reads what sessions over TCP are served by, and opens the repository in a folder that they are served at.
+/// Reads what sessions over TCP are served by, and opens the repository in a folder that they are served at, with the door for
+/// the clients of tunnels.
 fn prepare(
     rt: &HostRuntime,
     service: &Service,
-) -> Result<(Settings, FolderRepository<DiskStore>), ProgramFault>
+) -> Result<(Settings, FolderRepository<DiskStore>, Option<Tunnel>), ProgramFault>
     ensures options { IfOk result (λ prepared. OptionsAreAsked service.now prepared.0) }
     ensures counts { IfOk result (λ prepared. CountsAreAsked service.now prepared.0) }
 {
@@ -183,7 +187,14 @@ fn prepare(
         return Err(not_served(rt.alloc(), "error: DIR of `serve` is a folder\n"));
     };
     let settings = read_settings(rt, rt.alloc(), service)?;
-    Ok((settings, open_to_write(rt, folder, service.quiet)?))
+    let stored = open_to_write(rt, folder, service.quiet)?;
+    match tunnel_in(rt, rt.alloc(), folder.as_str(), service.exit_on_halt) {
+        Ok(tunnel) => Ok((settings, stored, tunnel)),
+        Err(AllocError) => {
+            drop(stored);
+            Err(ProgramFault::Hub(HubFault::NoMemory))
+        }
+    }
 }
 
 /// Gives the status to end with; a fault is printed before, with where it was met.
@@ -213,12 +224,15 @@ fn main(rt: HostRuntime) -> ExitCode {
         Order::Migrate { folder, new, quiet } => {
             migrate_folder(&rt, folder.as_str(), new.as_str(), *quiet)
         }
-        Order::Stdio(session) => serve_one(&rt, session),
         // threads are started by who has the runtime of `main`
+        Order::Stdio(session) => match serve_one(&rt, session) {
+            Err(ProgramFault::Folder(FolderFault::InUse)) => serve_elsewhere(&rt, &rt, session),
+            done => done,
+        },
         Order::Serve(service) => {
             let users = UsersFile::new(&rt, rt.alloc(), service);
             match prepare(&rt, service) {
-                Ok((settings, stored)) => {
+                Ok((settings, stored, tunnel)) => {
                     let server = Server {
                         rt: &rt,
                         alloc: rt.alloc(),
@@ -226,7 +240,7 @@ fn main(rt: HostRuntime) -> ExitCode {
                     };
                     serve_shared::<Brand, HostRuntime, _>(
                         &server,
-                        &users,
+                        (&users, tunnel),
                         stored,
                         NewHistory::new(),
                     )

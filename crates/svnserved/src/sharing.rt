@@ -5,7 +5,7 @@ use crate::fault::ProgramFault;
 use crate::repositories::DiskStore;
 use filed_repository::{FiledWorld, FolderRepository, opened_trees_are_sound};
 use published::{Naming, NewHistory};
-use serving::{Readings, Server, desks_of, serve};
+use serving::{Readings, Server, Tunnel, desks_of, serve};
 use std::fs::Files;
 use std::io::{Eprint, Print};
 use std::net::{Net, TcpListener, TcpStream};
@@ -14,10 +14,11 @@ use std::sync::Wait;
 use std::thread::Threads;
 use std::time::Clock;
 
-/// Serves sessions over TCP at a repository that was opened, by the users of a file that is read anew where it has changed.
+/// Serves sessions over TCP at a repository that was opened, by the users of a file that is read anew where it has changed; and
+/// those of tunnels where there is a door for them.
 pub fn serve_shared<J, R, N>(
     server: &Server<'_, R>,
-    readings: &N,
+    comes_by: (&N, Option<Tunnel>),
     stored: FolderRepository<DiskStore>,
     history: NewHistory,
 ) -> Result<(), ProgramFault>
@@ -37,8 +38,9 @@ where
 {
     opened_trees_are_sound(stored.repository());
     let (rt, alloc) = (server.rt, server.alloc);
+    let (readings, tunnel) = comes_by;
     let sessions = server.settings.sessions;
     let desks = desks_of::<R, FiledWorld, DiskStore, J>(rt, alloc, stored, history, sessions)?;
-    serve(server, readings, desks)?;
+    serve(server, readings, tunnel, desks)?;
     Ok(())
 }

@@ -1,0 +1,4 @@
+pub mod Queries
+pub mod Beneath
+pub mod Walks
+pub mod Questions
