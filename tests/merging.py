@@ -77,7 +77,7 @@ def revisions_of(ranges):
     return joined
 
 
-def normal_form_of(sources):
+def normal_form(sources):
     """The same revisions of the same paths, as inheritable as they are there: each path once, all in order."""
     gathered = {}
     for path, ranges in sources:
@@ -157,7 +157,7 @@ def answer(tree, inheritance, includes_descendants, paths):
     for path, wanted in questions(tree, inheritance, includes_descendants, paths):
         sources = sources_for(tree, wanted, path)
         if sources is not None:
-            told.append((path, written(normal_form_of(sources))))
+            told.append((path, written(normal_form(sources))))
     return told
 
 

@@ -1,55 +1,23 @@
 -- Paths that are noted, in their order.
-use Rattle.std.proofs.Common.{◌≡◌, arith, ℕ, zero, suc, ◌<◌, ◌≤◌, ◌+◌, take, get_or, Bool, true, false, cond, ◌&&◌, ◌||◌, List, [], ◌∷◌, ◌++◌, length, map}
-use Rattle.std.proofs.{Common.{refl, sym, ap, ◌∙◌}, lemmas.Bool.{false≢true, and_parts, and_from}, lemmas.List.Folds.list_any_more, lemmas.List.take_all}
+use Rattle.std.proofs.Common.{◌≡◌, arith, ℕ, zero, suc, ◌<◌, ◌≤◌, ◌+◌, take, get_or, Bool, true, false, ◌&&◌, ◌||◌, List, [], ◌∷◌, ◌++◌, length, map, refl, sym}
+use Rattle.std.proofs.{Common.{ap, ◌∙◌}, lemmas.Bool.{false≢true, and_parts, and_from}, lemmas.List.Folds.list_any_more, lemmas.List.take_all}
 use Rattle.std.proofs.lemmas.List.Kept.{IsStrictlySortedBy-filter}
-use Rattle.std.specs.{BTreeSet.insert_key, FinMap.{entries, entries_sorted, keys}, FinMap.Entries.{is_sorted, below_all}}
-use Rattle.std.specs.{List.{AllByRecursion, filter, list_any}, List.Sorted.IsStrictlySortedBy, Map.keys_of, Ordering.{is_eq, is_lt, match_ordering}, Prelude.T}
-use Rattle.std.specs.{declared.cmp.Ordering.Ordering, declared.cmp.Ordering.TheVariants.{Less, Equal, Greater}}
+use Rattle.std.specs.{FinMap.{entries, entries_sorted, keys}, FinMap.Entries.{is_sorted, below_all}, List.{AllByRecursion, list_any}}
+use Rattle.std.specs.{List.Sorted.IsStrictlySortedBy, Map.keys_of, Ordering.is_lt, Prelude.T, declared.cmp.Ordering.Ordering}
+use Rattle.std.specs.declared.cmp.Ordering.TheVariants.{Less, Equal, Greater}
 use Rattle.svnpath.specs.PathLaws.{same_component_refl, same_path_is}
 use Rattle.svnpath.specs.Paths.{Component, path_cmp, path_cmp_total, path_cmp-IsAntisymmetric, path_ties, PathValue, same_component, same_path}
 use Rattle.repo_api.specs.{Readings.{is_name_among, names_in}, States.TreeMap}
 use Rattle.merge_queries.specs.{Beneath.{descendants, is_descendant}, Queries.has_value, Walks.{AreNoted, is_path_among}}
-use Rattle.merge_queries.proofs.{Inheriting.both_ways, Leading.{from_names, is_from, keys_there, valued_there}, Ordered.one_order}
+use Rattle.merge_queries.proofs.{Inheriting.both_ways, Leading.{from_names, is_from, keys_there, valued_there}}
+use Rattle.mergeinfo.proofs.{Ordered.one_order, PathSets.{among_filtered, or_behind, or_swap}}
 use denote.Ref.{Bor}
 
--- ---- either one or the other
-
-or_swap : (a b : Bool) → (a || b) ≡ (b || a)
-or_swap true true = refl
-or_swap true false = refl
-or_swap false true = refl
-or_swap false false = refl
-
-or_twice : (a b : Bool) → (a || b) ≡ ((a || b) || a)
-or_twice true b = refl
-or_twice false true = refl
-or_twice false false = refl
-
-or_behind : (a b c : Bool) → (a || (b || c)) ≡ ((a || b) || c)
-or_behind true b c = refl
-or_behind false b c = refl
+-- ---- one path more
 
 or_none : (b : Bool) → (b || false) ≡ b
 or_none true = refl
 or_none false = refl
-
-and_none : (b : Bool) → (b && false) ≡ false
-and_none true = refl
-and_none false = refl
-
--- ---- one path more
-
-pub path_inserted : (paths : List PathValue) (x q : PathValue) → is_path_among (insert_key path_cmp paths x) q ≡ (is_path_among paths q || same_path q x)
-path_inserted [] x q = or_swap (same_path q x) false
-path_inserted (y ∷ paths) x q = by (path_cmp x y) refl (path_inserted paths x q)
-  where
-    by : (o : Ordering) → path_cmp x y ≡ o → is_path_among (insert_key path_cmp paths x) q ≡ (is_path_among paths q || same_path q x)
-        → is_path_among (match_ordering o (x ∷ y ∷ paths) (y ∷ paths) (y ∷ insert_key path_cmp paths x)) q ≡ ((same_path q y || is_path_among paths q) || same_path q x)
-    by Less is rest = or_swap (same_path q x) (same_path q y || is_path_among paths q)
-    by Equal is rest =
-        or_twice (same_path q y) (is_path_among paths q)
-        ∙ ap (λ t. (same_path q y || is_path_among paths q) || same_path q t) (sym (same_path_is x y (path_ties x y ∙ ap is_eq is)))
-    by Greater is rest = ap (λ b. same_path q y || b) rest ∙ or_behind (same_path q y) (is_path_among paths q) (same_path q x)
 
 here_if : (m : TreeMap) (p q : PathValue) → has_value m p ≡ true → same_path q p ≡ (same_path q p && has_value m q)
 here_if m p q valued = by (same_path q p) refl
@@ -145,19 +113,6 @@ sorted_keys (e ∷ es) h =
 
 in_order : (m : TreeMap) → IsStrictlySortedBy path_cmp (keys m)
 in_order m = sorted_keys (entries m) (is_true (is_sorted path_cmp (entries m)) (entries_sorted m))
-
-among_filtered : (test : PathValue → Bool) (paths : List PathValue) (q : PathValue) → is_path_among (filter test paths) q ≡ (is_path_among paths q && test q)
-among_filtered test [] q = refl
-among_filtered test (k ∷ paths) q = by (test k) (same_path q k) refl refl (among_filtered test paths q)
-  where
-    by : (b s : Bool) → test k ≡ b → same_path q k ≡ s → is_path_among (filter test paths) q ≡ (is_path_among paths q && test q)
-        → is_path_among (cond b (k ∷ filter test paths) (filter test paths)) q ≡ ((s || is_path_among paths q) && test q)
-    by true true passes is rest = ap (λ x. x || is_path_among (filter test paths) q) is ∙ sym (ap test (same_path_is q k is) ∙ passes)
-    by true false passes is rest = ap (λ x. x || is_path_among (filter test paths) q) is ∙ rest
-    by false true fails is rest =
-        let none : test q ≡ false = ap test (same_path_is q k is) ∙ fails in
-        rest ∙ ap (λ t. is_path_among paths q && t) none ∙ and_none (is_path_among paths q) ∙ sym none
-    by false false fails is rest = rest
 
 among_descendants : (m : TreeMap) (p q : PathValue) → is_path_among (descendants m p) q ≡ is_descendant m p q
 among_descendants m p q =

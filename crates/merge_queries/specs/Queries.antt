@@ -3,7 +3,7 @@ use Rattle.std.specs.Prelude.{◌≡◌, ℕ, Bool, ◌==◌, List, [], ◌∷�
 use Rattle.std.specs.{Cmp.Lexicographic.pointwise, FinMap.get, List.find}
 use Rattle.svnpath.specs.Paths.{PathValue, same_path}
 use Rattle.repo_api.specs.{Kinds.{node_properties, or_empty}, Properties.PropertyList, States.TreeMap}
-use Rattle.mergeinfo.specs.{Maybe.◌>>=◌, Sources.{SourceValue, inherited, IsNormalFormOf}, Texts.sources_of}
+use Rattle.mergeinfo.specs.{Maybe.◌>>=◌, Normal.normal_form, Sources.{SourceValue, inherited, IsNormalFormOf}, Texts.sources_of}
 use Rattle.merge_queries.specs.declared.inheritance.Inheritance.{Inheritance}
 use Rattle.merge_queries.specs.declared.inheritance.Inheritance.TheVariants.{Explicit, Inherited, NearestAncestor}
 
@@ -61,6 +61,10 @@ sources_for m inheritance p = sources_from m p (nearest m inheritance p)
 -- ---- what is answered
 
 -- the normal form of the sources, where there are some
+abbrev pub told_for : TreeMap → Inheritance → PathValue → Option (List SourceValue)
+told_for m inheritance p = option_map normal_form (sources_for m inheritance p)
+
+-- what is told is a normal form of the sources, where there are some
 abbrev pub IsToldOf : Option (List SourceValue) → Option (List SourceValue) → Type 0
 IsToldOf None told = told ≡ None
 IsToldOf (Some sources) None = ⊥

@@ -2,11 +2,11 @@
 ghost use Rattle.std.specs.Prelude.{◌≡◌, ◌≤◌, drop, length, IfOk, List, Some};
 ghost use Rattle.repo_api.specs.States.{tree_at};
 ghost use Rattle.mergeinfo.specs.Sources.{inherited, IsNormalFormOf, SourceValue};
-ghost use Rattle.merge_queries.specs.Queries.{handed_down, IsToldOf, sources_at, sources_for, sources_from};
+ghost use Rattle.merge_queries.specs.Queries.{handed_down, IsToldOf, sources_at, sources_for, sources_from, told_for};
 
 use crate::inheritance::Inheritance;
 use crate::nearest::{nearest, value_at};
-use mergeinfo::MergeInfo;
+use mergeinfo::{MergeInfo, normal_forms_are_one};
 use repo_api::Repository;
 use std::alloc::{AllocError, Global};
 use svnpath::Path;
@@ -79,10 +79,8 @@ fn told_from<R: Repository>(
     }
 }
 
-/// Gives the merge information of the entry at a path of a revision: that of the nearest path whose entry has the property.
-/// From above come the ranges that are inheritable, with the rest of the path after each source. It is `None` where no path
-/// has the property, and where the value is no merge information.
-pub fn merge_info_at<R: Repository>(
+/// Gives what a path has of the value of the nearest path that has one.
+fn told_nearest<R: Repository>(
     alloc: Global,
     repository: &R,
     revision: u64,
@@ -96,4 +94,21 @@ pub fn merge_info_at<R: Repository>(
         Some(above) => told_from(alloc, repository, revision, &above, path),
         None => Ok(None),
     }
+}
+
+/// Gives the merge information of the entry at a path of a revision: that of the nearest path whose entry has the property.
+/// From above come the ranges that are inheritable, with the rest of the path after each source. It is `None` where no path
+/// has the property, and where the value is no merge information.
+pub fn merge_info_at<R: Repository>(
+    alloc: Global,
+    repository: &R,
+    revision: u64,
+    path: &Path,
+    inheritance: Inheritance,
+) -> Result<Option<MergeInfo>, AllocError>
+    ensures { IfOk result (λ told. told
+        ≡ told_for (tree_at (R.content repository.now) revision) inheritance path.now) }
+{
+    normal_forms_are_one();
+    told_nearest(alloc, repository, revision, path, inheritance)
 }

@@ -109,7 +109,7 @@ all_inherited rest items sources i entries is over h = subst (λ xs. IsGathered 
 abbrev pub as_sources : {Y : Type 0} → List (PathValue × Vec Range Y) → List SourceValue
 as_sources entries = map (λ e. record { path = e.0; ranges = e.1.items }) entries
 
-same_path_sym : (p q : PathValue) → same_path p q ≡ same_path q p
+pub same_path_sym : (p q : PathValue) → same_path p q ≡ same_path q p
 same_path_sym p q = by (same_path p q) refl (same_path q p) refl
   where
     by : (s : Bool) → same_path p q ≡ s → (t : Bool) → same_path q p ≡ t → s ≡ t

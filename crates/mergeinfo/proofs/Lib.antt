@@ -8,3 +8,7 @@ pub mod Lines
 pub mod Gathering
 pub mod Rights
 pub mod Again
+pub mod Ordered
+pub mod PathSets
+pub mod OneForm
+pub mod Formed

@@ -53,13 +53,13 @@ same_kind_is true false e = absurd (false≢true e)
 same_kind_is false true e = absurd (false≢true e)
 same_kind_is false false e = refl
 
-same_kind_refl : (a b : Bool) → a ≡ b → same_kind a b ≡ true
+pub same_kind_refl : (a b : Bool) → a ≡ b → same_kind a b ≡ true
 same_kind_refl true true e = refl
 same_kind_refl true false e = sym e
 same_kind_refl false true e = e
 same_kind_refl false false e = refl
 
-below_apart : (x z : Range) → (same_kind x.is_inheritable z.is_inheritable && (x.last + 1 == z.first)) ≡ false
+pub below_apart : (x z : Range) → (same_kind x.is_inheritable z.is_inheritable && (x.last + 1 == z.first)) ≡ false
     → x.first ≤ x.last → x.last + 1 ≤ z.first → IsBelow x z
 below_apart x z ends forward up = record { forward = forward; apart = omega (arith, up); maximal = λ k. far k }
   where
@@ -77,10 +77,10 @@ below_apart x z ends forward up = record { forward = forward; apart = omega (ari
 
 -- ---- which revisions they have
 
-covers_joined : (r a b c d : ℕ) → a ≤ b → b + 1 ≡ c → c ≤ d → (nat_le a r && nat_le r d) ≡ ((nat_le a r && nat_le r b) || (nat_le c r && nat_le r d))
+pub covers_joined : (r a b c d : ℕ) → a ≤ b → b + 1 ≡ c → c ≤ d → (nat_le a r && nat_le r d) ≡ ((nat_le a r && nat_le r b) || (nat_le c r && nat_le r d))
 covers_joined r a b c d one next two = grind (arith, nat_tests)
 
-and_joined : (a b s t u : Bool) → a ≡ b → s ≡ (t || u) → (a && s) ≡ ((a && t) || (b && u))
+pub and_joined : (a b s t u : Bool) → a ≡ b → s ≡ (t || u) → (a && s) ≡ ((a && t) || (b && u))
 and_joined true b s t u e h = h ∙ ap (λ v. t || (v && u)) e
 and_joined false b s t u e h = ap (λ v. v && u) e
 

@@ -8,13 +8,13 @@ use Rattle.mergeinfo.specs.Ranges.{covers, has, has_inheritable, IsBelow, AreInO
 use Rattle.mergeinfo.specs.{Sweeps.{end_of, IsInOrderOf, IsOpenFrom, IsPushed, IsSweptTo, IsWrittenTo}, declared.range.Range.Range, declared.sweep.Sweep.Sweep}
 use Rattle.mergeinfo.proofs.Pushes.{head_order, tail_order}
 
-covers_within : (r : ℕ) (x : Range) → x.first ≤ r → r ≤ x.last → covers r x ≡ true
+pub covers_within : (r : ℕ) (x : Range) → x.first ≤ r → r ≤ x.last → covers r x ≡ true
 covers_within r x low high = and_from (nat_le x.first r) (nat_le r x.last) (le-leb x.first r low) (le-leb r x.last high)
 
-covers_before : (r : ℕ) (x : Range) → r < x.first → covers r x ≡ false
+pub covers_before : (r : ℕ) (x : Range) → r < x.first → covers r x ≡ false
 covers_before r x lt = and_left (nat_le x.first r) (nat_le r x.last) (lt-leb x.first r lt)
 
-covers_past : (r : ℕ) (x : Range) → x.last < r → covers r x ≡ false
+pub covers_past : (r : ℕ) (x : Range) → x.last < r → covers r x ≡ false
 covers_past r x lt = and_second (nat_le x.first r) (nat_le r x.last) (lt-leb r x.last lt)
   where
     and_second : (a b : Bool) → b ≡ false → (a && b) ≡ false
@@ -39,7 +39,7 @@ or_true false = refl
 
 -- ---- nothing is written from the end on
 
-first_before_end : (y : Range) (ys : List Range) → AreInOrder (y ∷ ys) → y.first < end_of (y ∷ ys)
+pub first_before_end : (y : Range) (ys : List Range) → AreInOrder (y ∷ ys) → y.first < end_of (y ∷ ys)
 first_before_end y [] h = let forward : y.first ≤ y.last = head_order y [] h in omega (arith, forward)
 first_before_end y (z ∷ zs) h =
     let below : IsBelow y z = head_order y (z ∷ zs) h in

@@ -4,3 +4,4 @@ pub mod Sources
 pub mod Texts
 pub mod Sweeps
 pub mod Gathered
+pub mod Normal

@@ -12,6 +12,6 @@ mod sweep;
 mod tests;
 
 pub use info::MergeInfo;
-pub use laws::written_is_read;
+pub use laws::{normal_forms_are_one, written_is_read};
 pub use range::{LAST_REVISION, Range};
 pub use source::Source;

@@ -1,7 +1,7 @@
 use Rattle.std.proofs.Common.{◌||◌, List, ap, ◌∙◌}
 use Rattle.svnpath.specs.Paths.{PathValue, same_path}
 use Rattle.merge_queries.specs.Walks.{is_path_among}
-use Rattle.merge_queries.proofs.Noting.{path_inserted}
+use Rattle.mergeinfo.proofs.PathSets.{path_inserted}
 use Rattle.merge_queries.proofs.beneath.put.Goals as goal
 
 pub returns-clause-noted : goal.returns-clause-noted

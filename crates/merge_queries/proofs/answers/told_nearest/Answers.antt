@@ -1,7 +1,7 @@
 use Rattle.std.proofs.Common.{sym, ◌∙◌}
 use Rattle.repo_api.specs.States.{tree_at}
 use Rattle.merge_queries.proofs.Upwards.{nearest_is_short}
-use Rattle.merge_queries.proofs.answers.merge_info_at.Goals as goal
+use Rattle.merge_queries.proofs.answers.told_nearest.Goals as goal
 
 pub told_from-requires : goal.told_from-requires
 told_from-requires g c =

@@ -1,8 +1,9 @@
--- Two lists in order that have the same items are one.
+-- Items in order: one more stays so, and two lists that have the same items are one.
 use Rattle.std.proofs.{Common.{◌≡◌, Bool, true, false, ◌||◌, List, [], ◌∷◌, refl, sym, ap, ◌∙◌}, lemmas.Bool.false≢true, lemmas.Cmp.tied_itself}
 use Rattle.std.proofs.lemmas.Map.Keys.{sorted_head, sorted_tail}
-use Rattle.std.specs.{Cmp.IsTotalOrder, List.{AllByRecursion, list_any}, List.Sorted.IsStrictlySortedBy, Ordering.{is_eq, is_lt, ordering_reverse}}
-use Rattle.std.specs.{declared.cmp.Ordering.Ordering, declared.cmp.Ordering.TheVariants.{Less, Equal, Greater}}
+use Rattle.std.specs.{BTreeSet.insert_key, Cmp.IsTotalOrder, List.{AllByRecursion, list_any}, List.Sorted.IsStrictlySortedBy}
+use Rattle.std.specs.{Ordering.{is_eq, is_lt, match_ordering, ordering_reverse}, declared.cmp.Ordering.Ordering}
+use Rattle.std.specs.declared.cmp.Ordering.TheVariants.{Less, Equal, Greater}
 
 module _ {K : Type 0} (R : K → K → Ordering) (o : IsTotalOrder R)
     (tied : (x y : K) → R x y ≡ Equal → x ≡ y) where
@@ -70,3 +71,39 @@ module _ {K : Type 0} (R : K → K → Ordering) (o : IsTotalOrder R)
           let tails : xs ≡ ys =
           more (λ k. rest k x xs ys nx ny (same k ∙ ap (λ z. has (z ∷ ys) k) (sym one))) in
           λ i. one i ∷ tails i
+
+  sorted_more : (k : K) (ks : List K) → AllByRecursion (λ y. R k y ≡ Less) ks
+      → IsStrictlySortedBy R ks → IsStrictlySortedBy R (k ∷ ks)
+  unfolding IsStrictlySortedBy
+  sorted_more k ks above sorted = (above, sorted)
+
+  all_inserted : (P : K → Type 0) (k : K) (ks : List K) → P k → AllByRecursion P ks
+      → AllByRecursion P (insert_key R ks k)
+  all_inserted P k [] here all = (here, tt)
+  all_inserted P k (x ∷ xs) here all = by (R k x) (all_inserted P k xs here all.1)
+    where
+      by : (r : Ordering) → AllByRecursion P (insert_key R xs k)
+          → AllByRecursion P (match_ordering r (k ∷ x ∷ xs) (x ∷ xs) (x ∷ insert_key R xs k))
+      by Less deeper = (here, all)
+      by Equal deeper = all
+      by Greater deeper = (all.0, deeper)
+
+  pub insert_sorted : (k : K) (ks : List K) → IsStrictlySortedBy R ks
+      → IsStrictlySortedBy R (insert_key R ks k)
+  insert_sorted k [] sorted = sorted_more k [] tt sorted
+  insert_sorted k (x ∷ xs) sorted =
+      by (R k x) refl (insert_sorted k xs (sorted_tail R x xs sorted))
+    where
+      above : AllByRecursion (λ y. R x y ≡ Less) xs
+      above = sorted_head R x xs sorted
+
+      by : (r : Ordering) → R k x ≡ r → IsStrictlySortedBy R (insert_key R xs k)
+          → IsStrictlySortedBy R
+          (match_ordering r (k ∷ x ∷ xs) (x ∷ xs) (x ∷ insert_key R xs k))
+      by Less is deeper =
+          sorted_more k (x ∷ xs) (is, all_behind k x xs is above) sorted
+      by Equal is deeper = sorted
+      by Greater is deeper =
+          let after : R x k ≡ Less = turned (R k x) (R x k) (o.antisymm k x) is in
+          sorted_more x (insert_key R xs k)
+          (all_inserted (λ y. R x y ≡ Less) k xs after above) deeper
