@@ -7,6 +7,7 @@ ghost use Rattle.filed_repository.specs.{Reading.{AreFirst, HasRead, ReadsLocks}
 
 use crate::counting::count_of;
 use crate::filed_world::FiledWorld;
+use fsfs::KnownDumps;
 use fsfs_nodes::{Current, read_current, read_uuid};
 use fsfs_text::{FileFault, Format, read_format};
 use repostore::Reader;
@@ -14,11 +15,12 @@ use std::alloc::{AllocError, Global};
 use stored_repository::Loader;
 use world::World;
 
-/// Reads the files of a repository, and has what they say of it.
+/// Reads the files of a repository, and has what they say of it, and what is known of directories.
 #[derive(Drop)]
 pub struct FolderReader {
     alloc: Global,
     filed: FiledWorld,
+    known: KnownDumps,
 }
 
 /// Reads the file `format`, which has to be there.
@@ -79,13 +81,20 @@ impl Reader for FolderReader {
         let name = read_uuid(uuid.as_slice())?;
         let said = read_current_file(stated, current.as_slice())?;
         let filed = unread(alloc, name, said)?;
-        Ok((FolderReader { alloc, filed }, said.youngest + 1))
+        let known = KnownDumps::new(alloc);
+        let reader = FolderReader {
+            alloc,
+            filed,
+            known,
+        };
+        Ok((reader, said.youngest + 1))
     }
 
     fn take_revision(&mut self, revision: Vec<u8>, properties: Vec<u8>) -> Result<(), FileFault> {
+        let known = &mut self.known;
         self.filed = self
             .filed
-            .with_next_revision(revision.as_slice(), properties.as_slice())?;
+            .with_next_revision(known, revision.as_slice(), properties.as_slice())?;
         Ok(())
     }
 
@@ -99,7 +108,11 @@ impl Loader for FolderReader {
     type Repository = FiledWorld;
 
     fn finish(self) -> FiledWorld {
-        let FolderReader { alloc: _, filed } = self;
+        let FolderReader {
+            alloc: _,
+            filed,
+            known: _,
+        } = self;
         filed.read_whole();
         filed
     }

@@ -14,7 +14,7 @@ use crate::filing::with_table;
 use filed_trees::{
     ReadRevision, Table, check_same_properties, nothing_is_tabled, read_next, tabulated,
 };
-use fsfs::{judge_revision, read_revision};
+use fsfs::{KnownDumps, judge_revision, read_known_revision};
 use fsfs_nodes::{Current, read_locks, read_properties};
 use fsfs_text::FileFault;
 use pvec::PVec;
@@ -208,13 +208,14 @@ impl FiledWorld {
         }
     }
 
-    /// Reads what the files of a revision after revision 0 say, and judges it.
+    /// Reads what the files of a revision after revision 0 say, by what is known of directories, and judges it.
     ///
     /// # Errors
     ///
-    /// As `read_revision`, `judge_revision`, `read_properties` and `read_next`.
+    /// As `read_known_revision`, `judge_revision`, `read_properties` and `read_next`.
     pub(crate) fn read_further(
         &self,
+        known: &mut KnownDumps,
         revision: &[u8],
         properties: &[u8],
     ) -> Result<(ReadRevision, Properties), FileFault>
@@ -225,10 +226,10 @@ impl FiledWorld {
             → IfFindsFaulty result (ContinueHistory files (revision.now, properties.now) → ⊥) }
     {
         let number = self.tables.len() as u32;
-        let file = read_revision(self.alloc, number, revision)?;
-        judge_revision(self.alloc, number, &file)?;
+        let file = read_known_revision(known, number, revision)?;
+        judge_revision(known, number, &file)?;
         let list = read_properties(self.alloc, properties)?;
-        match read_next(self.alloc, self.world.nodes(), &self.tables, &file) {
+        match read_next(known, self.world.nodes(), &self.tables, &file) {
             Ok(read) => Ok((read, list)),
             Err(fault) => {
                 std::mem::drop(list);
@@ -240,6 +241,7 @@ impl FiledWorld {
     /// Reads the files of a revision after revision 0.
     fn with_further_revision(
         &self,
+        known: &mut KnownDumps,
         revision: &[u8],
         properties: &[u8],
     ) -> Result<FiledWorld, FileFault>
@@ -247,18 +249,19 @@ impl FiledWorld {
         ensures read { IfOk result (HasReadMore self.now (revision.now, properties.now)) }
         ensures judges { JudgesNext self.now (revision.now, properties.now) result }
     {
-        let (read, list) = self.read_further(revision, properties)?;
+        let (read, list) = self.read_further(known, revision, properties)?;
         self.with_read(read, list)
     }
 
-    /// Reads the files of the next revision, and takes them.
+    /// Reads the files of the next revision, by what is known of directories, and takes them.
     ///
     /// # Errors
     ///
-    /// As `read_revision`, `judge_revision`, `read_properties` and `read_next`; `BadLine` where the revision
+    /// As `read_known_revision`, `judge_revision`, `read_properties` and `read_next`; `BadLine` where the revision
     /// may not be the next one, or revision 0 is not that of a new repository.
     pub fn with_next_revision(
         &self,
+        known: &mut KnownDumps,
         revision: &[u8],
         properties: &[u8],
     ) -> Result<FiledWorld, FileFault>
@@ -270,7 +273,7 @@ impl FiledWorld {
         if self.tables.len() == 0 {
             self.with_first_revision(revision, properties)
         } else {
-            self.with_further_revision(revision, properties)
+            self.with_further_revision(known, revision, properties)
         }
     }
 

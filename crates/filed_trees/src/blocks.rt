@@ -21,7 +21,7 @@ use crate::places::{
     Earlier, Places, earlier_id, earlier_properties, earlier_text, find_earlier, node_of,
 };
 use crate::table::{Table, table_of};
-use fsfs::{FilePiece, RevisionFile};
+use fsfs::{FilePiece, KnownDumps, RevisionFile};
 use fsfs_nodes::{EntryKind, read_properties};
 use fsfs_text::FileFault;
 use noderevs::{Block, Made, NodeId, NodeRev, Nodes};
@@ -34,10 +34,11 @@ use std::sync::Arc;
 use svnpath::Path;
 
 /// Holds what is known where a node is read: what stands in the files of the revisions and in that of
-/// this one, and the changes of this one.
+/// this one, the changes of this one, and what is known of directories.
 #[derive(Clone, Copy)]
 struct Reading<'a> {
     alloc: Global,
+    known: &'a KnownDumps,
     places: Places<'a>,
     changes: &'a [(Path, Change)],
     none: &'a Arc<Properties>,
@@ -138,7 +139,7 @@ impl Reading<'_> {
     {
         match body {
             Body::Empty => Ok(SharedMap::new(self.alloc)),
-            Body::New(dump) => read_kids(self.alloc, self.places, dump.as_slice(), earlier),
+            Body::New(dump) => read_kids(self.known, self.places, dump, earlier),
             Body::Kept => same_kids(self.alloc, earlier),
         }
     }
@@ -334,7 +335,7 @@ fn by_offset(alloc: Global, pieces: &[FilePiece]) -> Result<Vec<&FilePiece>, All
 
 /// Reads the nodes of the next revision, and says where they stand in its file.
 fn read_block<'a>(
-    alloc: Global,
+    known: &'a KnownDumps,
     nodes: &'a Nodes,
     tables: &'a PVec<Table>,
     changes: &'a [(Path, Change)],
@@ -349,6 +350,7 @@ fn read_block<'a>(
     ensures heights { IfOk result (λ read. HaveHeights (node_at nodes.now) (length tables.now)
         read.0.nodes.items) }
 {
+    let alloc = known.alloc();
     let none = Arc::new(alloc, Properties::new(alloc))?;
     let rows = by_offset(alloc, pieces)?;
     let table = table_of(alloc, tables, rows.as_slice())?;
@@ -359,6 +361,7 @@ fn read_block<'a>(
     };
     let reading = Reading {
         alloc,
+        known,
         places,
         changes,
         none: &none,
@@ -381,14 +384,14 @@ pub struct ReadRevision {
 }
 
 /// Reads the next revision from its file, whose node revisions are the root first and then by falling
-/// offsets. The tables are those of the revisions before. Nodes share what their predecessors have. That
-/// the revision may come next is not judged.
+/// offsets, by what is known of directories. The tables are those of the revisions before. Nodes share
+/// what their predecessors have. That the revision may come next is not judged.
 ///
 /// # Errors
 ///
 /// `Dangling` where an id or a line names what it may not, `BadLine` where a line is invalid; `NoMemory`.
 pub fn read_next<'a>(
-    alloc: Global,
+    known: &'a KnownDumps,
     nodes: &'a Nodes,
     tables: &'a PVec<Table>,
     file: &'a RevisionFile,
@@ -406,9 +409,9 @@ pub fn read_next<'a>(
         Judges result (IsReadableFile (files ++ bytes ∷ []) tables.now file.now.pieces.items
         file.now.changes.items)) }
 {
-    let changes = changes_by_path(alloc, file.changes.as_slice())?;
+    let changes = changes_by_path(known.alloc(), file.changes.as_slice())?;
     match read_block(
-        alloc,
+        known,
         nodes,
         tables,
         changes.as_slice(),

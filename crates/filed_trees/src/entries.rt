@@ -1,6 +1,6 @@
 //! The entries of a directory, read from a file.
 ghost use Rattle.std.specs.{List.Sorted.IsStrictlySortedBy, Ordering.is_lt};
-ghost use Rattle.std.specs.{Prelude.{◌≡◌, ◌⊎◌, map, Decides, Option, Some, All, Contains, IsSome, IsSomeAnd, IfOk, if◌then◌else◌}, Arc.arc_value};
+ghost use Rattle.std.specs.{Prelude.{◌≡◌, ◌⊎◌, map, Decides, Option, Some, All, Contains, IsSome, IsSomeAnd, IfOk, IfSome, if◌then◌else◌}, Arc.arc_value};
 ghost use Rattle.std.specs.Result.{result_ok};
 ghost use Rattle.shared_map.specs.{Entries.by_bytes, Rows.row_entries};
 ghost use Rattle.svnpath.specs.Paths.{Component, same_component};
@@ -15,10 +15,11 @@ ghost use Rattle.fsfs_nodes.specs.{Entries.entries_of, declared.entries.EntryKin
 use crate::kids::ids_by_name;
 use crate::places::{Earlier, Places, is_placed, node_of};
 use byte_string::ByteString;
+use fsfs::KnownDumps;
 use fsfs_nodes::{DirectoryEntry, read_entries};
 use fsfs_text::{FileFault, FileId};
 use noderevs::{NodeId, NodeRev};
-use repo_api::Content;
+use repo_api::{Content, FileText};
 use shared_map::SharedMap;
 use std::alloc::{AllocError, Global};
 use std::collections::BTreeMap;
@@ -159,26 +160,6 @@ fn shared_kids(
     }
 }
 
-/// Finds the node of an entry. That is quick where it is the node that is given.
-///
-/// # Errors
-///
-/// `Dangling` where the files have no such node revision.
-fn node_like(places: Places<'_>, id: FileId, before: Option<NodeId>) -> Result<NodeId, FileFault>
-    ensures { ReadsWhere result (IsTabled (tables_of places.entry) id)
-        (λ node. IsAt (tables_of places.entry) (Some node) (Some id)) }
-{
-    if let Some(before) = before {
-        if is_placed(places, before, id) {
-            return Ok(before);
-        }
-    }
-    let Some(node) = node_of(places, id) else {
-        return Err(FileFault::Dangling);
-    };
-    Ok(node)
-}
-
 /// Finds the first place, from this one on, that has the name or a later one.
 fn place_from(entries: &[&(ByteString, NodeId)], from: usize, name: &ByteString) -> usize {
     let mut at = from;
@@ -188,12 +169,49 @@ fn place_from(entries: &[&(ByteString, NodeId)], from: usize, name: &ByteString)
     at
 }
 
-/// Gives the node of the entry at a place, if there is one.
-fn node_among(entries: &[&(ByteString, NodeId)], place: usize) -> Option<NodeId> {
-    match entries.get(place) {
-        Some(entry) => Some(entry.1),
-        None => None,
+/// Gives the node of the entry at a place, if it is the node revision of an id.
+fn placed_among(
+    places: Places<'_>,
+    entries: &[&(ByteString, NodeId)],
+    place: usize,
+    id: FileId,
+) -> Option<NodeId>
+    ensures { IfSome result (λ node. IsTabled (tables_of places.entry) id
+        × IsAt (tables_of places.entry) (Some node) (Some id)) }
+{
+    let node = entries.get(place)?.1;
+    if is_placed(places, node, id) {
+        Some(node)
+    } else {
+        None
     }
+}
+
+/// Finds the node of an entry. That is quick where it is that of the entry at a place of a directory, or of one behind it:
+/// the place is moved behind that one.
+///
+/// # Errors
+///
+/// `Dangling` where the files have no such node revision.
+fn node_near(
+    places: Places<'_>,
+    entries: &[&(ByteString, NodeId)],
+    at: &mut usize,
+    entry: &DirectoryEntry,
+) -> Result<NodeId, FileFault>
+    ensures { ReadsWhere result (IsTabled (tables_of places.entry) entry.now.id)
+        (λ node. IsAt (tables_of places.entry) (Some node) (Some entry.now.id)) }
+{
+    if let Some(node) = placed_among(places, entries, *at, entry.id) {
+        *at = at.saturating_add(1);
+        return Ok(node);
+    }
+    *at = place_from(entries, *at, &entry.name);
+    if let Some(node) = placed_among(places, entries, *at, entry.id) {
+        *at = at.saturating_add(1);
+        return Ok(node);
+    }
+    node_of(places, entry.id).ok_or(FileFault::Dangling)
 }
 
 /// Lists the names of entries with their nodes. That is quick where the names rise, and the nodes are
@@ -217,8 +235,7 @@ fn rows_of<'a>(
     let mut rows = Vec::with_capacity(alloc, entries.len())?;
     let mut at = 0;
     for entry in entries {
-        at = place_from(before, at, &entry.name);
-        let node = node_like(places, entry.id, node_among(before, at))?;
+        let node = node_near(places, before, &mut at, entry)?;
         rows.push((&entry.name, node))?;
     }
     Ok(rows)
@@ -254,15 +271,42 @@ fn are_rising(entries: &[DirectoryEntry]) -> bool
     entries.is_sorted_by(is_before)
 }
 
-/// Reads the entries that bytes say. They share what the predecessor has.
+/// Makes the entries of a directory those of a list. They share what the predecessor has.
+///
+/// # Errors
+///
+/// As `set_kids`.
+fn kids_of(
+    alloc: Global,
+    places: Places<'_>,
+    entries: &[DirectoryEntry],
+    earlier: Option<Earlier<'_>>,
+) -> Result<SharedMap<NodeId>, FileFault>
+    ensures { ReadsWhere result (AreEntries (IsTabled (tables_of places.entry)) entries.now)
+        (λ made. AreAt (tables_of places.entry) made entries.now) }
+{
+    let mut kids = shared_kids(alloc, earlier)?;
+    if are_rising(entries) {
+        return rising_kids(alloc, places, &kids, entries);
+    }
+    match set_kids(alloc, places, &mut kids, entries) {
+        Ok(()) => Ok(kids),
+        Err(fault) => {
+            std::mem::drop(kids);
+            Err(fault)
+        }
+    }
+}
+
+/// Reads the entries that bytes say, by what is known of directories. They share what the predecessor has.
 ///
 /// # Errors
 ///
 /// As `read_entries` and `set_kids`.
 pub(crate) fn read_kids(
-    alloc: Global,
+    known: &KnownDumps,
     places: Places<'_>,
-    bytes: &[u8],
+    bytes: &FileText,
     earlier: Option<Earlier<'_>>,
 ) -> Result<SharedMap<NodeId>, FileFault>
     ensures { ReadsWhere result (IsSomeAnd (result_ok (entries_of bytes.now))
@@ -271,18 +315,11 @@ pub(crate) fn read_kids(
         → IsSomeAnd line (λ l. body_at_line files l ≡ Some bytes.now)
         → HasEntries files (tables_of places.entry) line kids) }
 {
-    let entries = read_entries(alloc, bytes)?;
-    let mut kids = shared_kids(alloc, earlier)?;
-    if are_rising(entries.as_slice()) {
-        return rising_kids(alloc, places, &kids, entries.as_slice());
+    if let Some(entries) = known.entries_of(bytes) {
+        return kids_of(known.alloc(), places, entries, earlier);
     }
-    match set_kids(alloc, places, &mut kids, entries.as_slice()) {
-        Ok(()) => Ok(kids),
-        Err(fault) => {
-            std::mem::drop(kids);
-            Err(fault)
-        }
-    }
+    let entries = read_entries(known.alloc(), bytes.as_slice())?;
+    kids_of(known.alloc(), places, entries.as_slice(), earlier)
 }
 
 /// Shares the entries of the predecessor.

@@ -8,7 +8,7 @@ use crate::changes::{are_same_changes, is_same_path};
 use crate::kids::are_same_kids;
 use crate::table::Table;
 use block_rules::{are_same_properties, is_same_content};
-use fsfs::read_revision;
+use fsfs::{KnownDumps, read_revision};
 use fsfs_text::FileFault;
 use noderevs::{NodeId, NodeRev, Nodes};
 use pvec::PVec;
@@ -109,7 +109,8 @@ pub fn tabulated(
 {
     let revision = tables.len() as u32;
     let file = read_revision(alloc, revision, file)?;
-    let read = read_next(alloc, nodes, tables, &file)?;
+    let known = KnownDumps::new(alloc);
+    let read = read_next(&known, nodes, tables, &file)?;
     match is_last_revision(alloc, nodes, revision, changes, &read) {
         Ok(true) => Ok(read.table),
         Ok(false) => {

@@ -43,6 +43,10 @@ judged_entries revision kinds [] = Ok tt
 judged_entries revision kinds (entry ∷ entries) =
     if is_right revision kinds entry then judged_entries revision kinds entries else Err BadLine
 
+-- the same, of entries that were read
+abbrev pub judged_read : ℕ → Kinds → Result (List DirectoryEntry) FileFault → Judged
+judged_read revision kinds read = read >>= λ entries. judged_entries revision kinds entries
+
 -- an id is of an earlier revision, if there is one
 abbrev pub is_earlier_id : ℕ → Option FileId → Bool
 is_earlier_id revision None = true

@@ -56,6 +56,10 @@ marked revision offset (entry ∷ entries) wanted =
     else marked revision offset entries wanted)
     else Err Dangling
 
+-- the same, of entries that were read
+abbrev pub marked_by : ℕ → ℕ → List Bool → Result (List DirectoryEntry) FileFault → Result (List Bool) FileFault
+marked_by revision offset wanted read = read >>= λ entries. marked revision offset entries wanted
+
 -- a node revision, and what is wanted with it
 unfoldable pub step_of : ℕ → List ℕ → ℕ → List Bool → Result (FilePiece × List Bool) FileFault
 step_of revision bytes offset wanted = do

@@ -1,14 +1,15 @@
 //! A whole revision, judged.
 ghost use Rattle.std.specs.Prelude.{◌≡◌};
 ghost use Rattle.fsfs_text.specs.Reading.{Answers, Gives};
-ghost use Rattle.fsfs.specs.Judging.{is_earlier_id, is_earlier_place, judged_node, judged_piece, judged_pieces, judged_changes, judged_revision};
+ghost use Rattle.fsfs.specs.Pieces.{entries_in};
+ghost use Rattle.fsfs.specs.Judging.{is_earlier_id, is_earlier_place, judged_node, judged_piece, judged_pieces, judged_read, judged_changes, judged_revision};
 
+use crate::dumps::KnownDumps;
 use crate::judged_entries::{judge_entries, kinds_of};
 use crate::piece::{FilePiece, entries_in};
 use crate::revision::RevisionFile;
 use fsfs_nodes::{EntryKind, FileChange, FileNode};
 use fsfs_text::{FileFault, FileId, Place};
-use std::alloc::Global;
 use std::collections::BTreeMap;
 
 /// Says whether an id is of an earlier revision, if there is one.
@@ -44,10 +45,27 @@ fn judge_node(revision: u32, node: &FileNode) -> Result<(), FileFault>
     Ok(())
 }
 
+/// Judges the new entries that come with a node revision.
+fn judge_new_entries(
+    known: &KnownDumps,
+    revision: u32,
+    kinds: &BTreeMap<u64, EntryKind>,
+    piece: &FilePiece,
+) -> Result<(), FileFault>
+    ensures { Answers (λ judged. judged) result
+        (judged_read revision kinds.now.entries (entries_in piece.now)) }
+{
+    if let Some(entries) = known.entries_in(piece) {
+        return judge_entries(revision, kinds, entries);
+    }
+    let entries = entries_in(known.alloc(), piece)?;
+    judge_entries(revision, kinds, entries.as_slice())
+}
+
 /// Judges a node revision and the new entries that come with it.
 #[tactic(auto, unfolding(crate::specs::Judging::judged_piece))]
 fn judge_piece(
-    alloc: Global,
+    known: &KnownDumps,
     revision: u32,
     kinds: &BTreeMap<u64, EntryKind>,
     piece: &FilePiece,
@@ -56,13 +74,12 @@ fn judge_piece(
         (judged_piece revision kinds.now.entries piece.now) }
 {
     judge_node(revision, &piece.node)?;
-    let entries = entries_in(alloc, piece)?;
-    judge_entries(revision, kinds, entries.as_slice())
+    judge_new_entries(known, revision, kinds, piece)
 }
 
 /// Judges node revisions, in their order.
 fn judge_pieces(
-    alloc: Global,
+    known: &KnownDumps,
     revision: u32,
     kinds: &BTreeMap<u64, EntryKind>,
     pieces: &[FilePiece],
@@ -71,7 +88,7 @@ fn judge_pieces(
         (judged_pieces revision kinds.now.entries pieces.now) }
 {
     for piece in pieces {
-        judge_piece(alloc, revision, kinds, piece)?;
+        judge_piece(known, revision, kinds, piece)?;
     }
     Ok(())
 }
@@ -88,18 +105,23 @@ fn judge_changes(revision: u32, changes: &[FileChange]) -> Result<(), FileFault>
     Ok(())
 }
 
-/// Judges what the file of a revision says of other revisions, and of what kinds its entries are.
+/// Judges what the file of a revision says of other revisions, and of what kinds its entries are, by what is known of
+/// directories.
 ///
 /// # Errors
 ///
 /// `Dangling` where a predecessor is not of an earlier revision; `BadLine` where a copy source is not,
 /// or where an entry says another kind than the node revision of this file that it names; `NoMemory`.
 #[tactic(auto, unfolding(crate::specs::Judging::judged_revision))]
-pub fn judge_revision(alloc: Global, revision: u32, file: &RevisionFile) -> Result<(), FileFault>
+pub fn judge_revision(
+    known: &KnownDumps,
+    revision: u32,
+    file: &RevisionFile,
+) -> Result<(), FileFault>
     ensures { Answers (λ judged. judged) result
         (judged_revision revision file.now.pieces.items file.now.changes.items) }
 {
-    let kinds = kinds_of(alloc, file.pieces.as_slice())?;
-    judge_pieces(alloc, revision, &kinds, file.pieces.as_slice())?;
+    let kinds = kinds_of(known.alloc(), file.pieces.as_slice())?;
+    judge_pieces(known, revision, &kinds, file.pieces.as_slice())?;
     judge_changes(revision, file.changes.as_slice())
 }

@@ -1,12 +1,12 @@
 //! The node revisions that a root leads to.
 ghost use Rattle.std.specs.Prelude.{◌≡◌, ◌≤◌, MatchResult, Ok, Err, length};
 ghost use Rattle.fsfs_text.specs.Reading.{Answers};
-ghost use Rattle.fsfs.specs.Pieces.{is_before, marked, step_of, pieces_below, pieces_of};
+ghost use Rattle.fsfs.specs.Pieces.{entries_in, is_before, marked, marked_by, step_of, pieces_below, pieces_of};
 
+use crate::dumps::KnownDumps;
 use crate::piece::{FilePiece, entries_in, read_piece};
 use fsfs_nodes::DirectoryEntry;
 use fsfs_text::{FileFault, FileId};
-use std::alloc::Global;
 
 /// Says whether an id lies before an offset of a revision's file.
 fn is_before(revision: u32, offset: u64, id: FileId) -> bool
@@ -40,10 +40,29 @@ fn mark(
     Ok(())
 }
 
-/// Reads the node revision at an offset, and marks what its entries name.
+/// Marks the node revisions of this revision that the new entries of a directory name.
+fn mark_entries(
+    known: &KnownDumps,
+    revision: u32,
+    offset: u64,
+    piece: &FilePiece,
+    wanted: &mut [bool],
+) -> Result<(), FileFault>
+    requires { offset ≤ length wanted.old }
+    ensures { Answers (λ _. wanted.new) result
+        (marked_by revision offset wanted.old (entries_in piece.now)) }
+{
+    if let Some(entries) = known.entries_in(piece) {
+        return mark(revision, offset, entries, wanted);
+    }
+    let entries = entries_in(known.alloc(), piece)?;
+    mark(revision, offset, entries.as_slice(), wanted)
+}
+
+/// Reads the node revision at an offset, and marks what its entries name. The entries of a directory are known from then on.
 #[tactic(auto, unfolding(crate::specs::Pieces::step_of))]
 fn take_piece(
-    alloc: Global,
+    known: &mut KnownDumps,
     revision: u32,
     bytes: &[u8],
     offset: u64,
@@ -53,15 +72,15 @@ fn take_piece(
     ensures { Answers (λ piece. (piece, wanted.new)) result
         (step_of revision bytes.now offset wanted.old) }
 {
-    let piece = read_piece(alloc, revision, bytes, offset)?;
-    let entries = entries_in(alloc, &piece)?;
-    mark(revision, offset, entries.as_slice(), wanted)?;
+    let piece = read_piece(known.alloc(), revision, bytes, offset)?;
+    known.note(&piece)?;
+    mark_entries(known, revision, offset, &piece, wanted)?;
     Ok(piece)
 }
 
 /// Reads the wanted node revisions, by falling offsets.
 fn read_wanted(
-    alloc: Global,
+    known: &mut KnownDumps,
     revision: u32,
     bytes: &[u8],
     wanted: &mut [bool],
@@ -69,12 +88,12 @@ fn read_wanted(
     ensures { Answers (λ v. v.items) result
         (pieces_below revision bytes.now (length wanted.old) wanted.old) }
 {
-    let mut pieces = Vec::new(alloc);
+    let mut pieces = Vec::new(known.alloc());
     let mut end = wanted.len();
     while end > 0 {
         end -= 1;
         if wanted[end] {
-            let piece = take_piece(alloc, revision, bytes, end as u64, wanted)?;
+            let piece = take_piece(known, revision, bytes, end as u64, wanted)?;
             pieces.push(piece)?;
         }
     }
@@ -90,7 +109,7 @@ fn read_wanted(
 /// `read_piece`.
 #[tactic(auto, unfolding(crate::specs::Pieces::pieces_of))]
 pub fn read_pieces(
-    alloc: Global,
+    known: &mut KnownDumps,
     revision: u32,
     bytes: &[u8],
     root: u64,
@@ -101,7 +120,7 @@ pub fn read_pieces(
     if root >= bytes.len() {
         return Err(FileFault::Dangling);
     }
-    let mut table = vec![in alloc; false; root + 1]?;
+    let mut table = vec![in known.alloc(); false; root + 1]?;
     table[root] = true;
-    read_wanted(alloc, revision, bytes, table.as_mut_slice())
+    read_wanted(known, revision, bytes, table.as_mut_slice())
 }

@@ -1,7 +1,7 @@
 //! The entries of a directory.
 ghost use Rattle.std.specs.Prelude.{◌≡◌, ◌++◌, OnOk, IfOk};
-ghost use Rattle.fsfs_text.specs.{Dumps.dump, Reading.Answers};
-ghost use Rattle.fsfs_nodes.specs.{Nodes.{kind_text, kind_of}, Entries.{entry_text, entry_pairs, kind_and_id, entries_of}};
+ghost use Rattle.fsfs_text.specs.{Dumps.{dump, pair_bytes}, Reading.Answers};
+ghost use Rattle.fsfs_nodes.specs.{Nodes.{kind_text, kind_of}, Entries.{entry_text, entry_pair, entry_pairs, kind_and_id, entries_of}};
 
 use byte_string::ByteString;
 use fsfs_text::{
@@ -62,14 +62,25 @@ fn entry_text(alloc: Global, entry: &DirectoryEntry) -> Result<Vec<u8>, AllocErr
     Ok(text)
 }
 
+/// Appends an entry as the contents of a directory have it. An `Err` may leave a part of it.
+pub fn append_entry(
+    alloc: Global,
+    out: &mut Vec<u8>,
+    entry: &DirectoryEntry,
+) -> Result<(), AllocError>
+    ensures { OnOk result (out.new.items ≡ out.old.items ++ pair_bytes (entry_pair entry.now)) }
+{
+    let text = entry_text(alloc, entry)?;
+    append_pair(out, entry.name.as_slice(), text.as_slice())
+}
+
 /// Makes the contents of a directory: a dump of its entries, in their order.
 pub fn write_entries(alloc: Global, entries: &[DirectoryEntry]) -> Result<Vec<u8>, AllocError>
     ensures { IfOk result (λ v. v.items ≡ dump (entry_pairs entries.now)) }
 {
     let mut out = Vec::new(alloc);
     for entry in entries {
-        let text = entry_text(alloc, entry)?;
-        append_pair(&mut out, entry.name.as_slice(), text.as_slice())?;
+        append_entry(alloc, &mut out, entry)?;
     }
     append_end(&mut out)?;
     Ok(out)

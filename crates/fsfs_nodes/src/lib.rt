@@ -18,7 +18,7 @@ mod trailer;
 pub use body::{append_body, read_body};
 pub use change::{FileAction, FileChange, append_changes, read_changes};
 pub use current::{Current, NextIds, append_current, read_current};
-pub use entries::{DirectoryEntry, EntryKind, read_entries, write_entries};
+pub use entries::{DirectoryEntry, EntryKind, append_entry, read_entries, write_entries};
 pub use identity::{append_uuid, read_uuid};
 pub use laws::a_current_is_read_again;
 pub use locks::{read_locks, write_locks};

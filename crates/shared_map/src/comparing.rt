@@ -16,13 +16,8 @@ fn stands_at<V: Same>(entries: &[&Entry<V>], place: usize, entry: &Entry<V>) -> 
     is_entry(other, &entry.0, &entry.1)
 }
 
-/// Finds the first place, from this one on, that has the name of the entry or a later one. The next
-/// place is looked at first: it has the entry where most of the others are the same.
+/// Finds the first place, from this one on, that has the name of the entry or a later one.
 fn place_from<V: Same>(others: &[&Entry<V>], from: usize, entry: &Entry<V>) -> usize {
-    let next = from.saturating_add(1);
-    if stands_at(others, next, entry) {
-        return next;
-    }
     let mut at = from;
     while at < others.len() && others[at].0 < entry.0 {
         at += 1;
@@ -30,21 +25,26 @@ fn place_from<V: Same>(others: &[&Entry<V>], from: usize, entry: &Entry<V>) -> u
     at
 }
 
-/// Lists the entry if it does not stand at the place among others.
+/// Lists the entry if it does not stand at the place among others, or at the first one behind it that may have it. Where it
+/// stands there, the place is moved behind it: the next place has the next entry where most of the others are the same.
 fn list_unlike<'a, V: Same>(
     list: &mut Vec<&'a Entry<V>>,
     others: &[&Entry<V>],
-    place: usize,
+    at: &mut usize,
     entry: &'a Entry<V>,
 ) -> Result<(), AllocError>
     ensures { OnOk result ((map deref list.new.items ≡ map deref list.old.items ++ entry.now ∷ [])
         ⊎ (map deref list.new.items ≡ map deref list.old.items)
         × Contains (map deref others.now) entry.now) }
 {
-    if stands_at(others, place, entry) {
-        return Ok(());
+    if !stands_at(others, *at, entry) {
+        *at = place_from(others, *at, entry);
+        if !stands_at(others, *at, entry) {
+            list.push(entry)?;
+            return Ok(());
+        }
     }
-    list.push(entry)?;
+    *at = at.saturating_add(1);
     Ok(())
 }
 
@@ -63,8 +63,7 @@ pub(crate) fn unlike<'a, V: Same>(
     let mut list = Vec::new(alloc);
     let mut at = 0;
     for entry in entries {
-        at = place_from(others, at, entry);
-        list_unlike(&mut list, others, at, entry)?;
+        list_unlike(&mut list, others, &mut at, entry)?;
     }
     Ok(list)
 }
