@@ -27,7 +27,7 @@ LONGEST, LONGEST_OF_OTHERS = 600, 60
 
 # What `./svnserved` and the unit of the package tell the C library: threads share what others have given back, and what is large
 # goes back to the system.
-ALLOCATOR = {"MALLOC_ARENA_MAX": "1", "MALLOC_MMAP_THRESHOLD_": "1048576"}
+ALLOCATOR = {"MALLOC_ARENA_MAX": "1", "MALLOC_MMAP_THRESHOLD_": "98304"}
 
 
 class Kind(NamedTuple):
